@@ -1,0 +1,9 @@
+pub mod Adapter
+pub mod Calls
+pub mod Disk
+pub mod Faults
+pub mod MemoryDisk
+pub mod MemorySink
+pub mod MemorySource
+pub mod Sink
+pub mod Source
