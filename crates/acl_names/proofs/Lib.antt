@@ -1,0 +1,3 @@
+pub mod Doubled
+pub mod Lowered
+pub mod SameAuth

@@ -1,0 +1,4 @@
+pub mod AuthId
+pub mod Name
+pub mod Quoted
+pub mod Text

@@ -1,0 +1,13 @@
+-- Texts as their bytes.
+use Rattle.std.specs.Prelude.{ℕ, Bool, List, nat_eq}
+use Rattle.std.specs.declared.cmp.Ordering.{Ordering}
+use Rattle.std.specs.Ordering.{nat_cmp}
+use Rattle.std.specs.Cmp.Lexicographic.{pointwise, slice_cmp}
+
+-- the same bytes
+abbrev pub text_eq : List ℕ → List ℕ → Bool
+text_eq = pointwise nat_eq
+
+-- by the first byte that differs, and a text before those that it begins
+abbrev pub text_cmp : List ℕ → List ℕ → Ordering
+text_cmp = slice_cmp nat_cmp
