@@ -1,0 +1,5 @@
+mod Cuts
+mod ReportLemmas
+mod Runs
+mod Scripts
+mod StreamLemmas

@@ -1,0 +1,13 @@
+pub mod Adding
+pub mod Answers
+pub mod Causes
+pub mod Effects
+pub mod Rehearsal
+pub mod Reports
+pub mod Script
+pub mod Seats
+pub mod Sessions
+pub mod Spelling
+pub mod Streams
+pub mod Texts
+pub mod Words

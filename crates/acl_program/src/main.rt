@@ -1,0 +1,56 @@
+//! The program `acl`: rehearses a script of account statements and privilege checks, line by line.
+#![tactic(auto)]
+
+mod answer;
+mod cause;
+mod command;
+mod cut;
+mod desk;
+mod fault;
+mod input;
+mod output;
+mod read_command;
+mod report;
+mod run;
+mod script;
+mod serve;
+mod session_name;
+mod statement;
+#[cfg(test)]
+mod tests;
+mod text;
+mod words;
+
+use acl_ports::{MemoryDisk, StdSink, StdSource};
+use serve::serve;
+use std::alloc::Global;
+use std::fs::File;
+use std::process::ExitCode;
+use std::{env, io};
+
+// Nothing is kept yet, so no journal is opened: the disk is an empty one in memory.
+fn main(rt: HostRuntime) -> ExitCode {
+    let mut out = StdSink::new(Some(rt.stdout()));
+    let mut err = StdSink::new(Some(rt.stderr()));
+    let alloc = rt.alloc();
+    let (Ok(words), Ok(disk)) = (
+        words_of(&rt),
+        MemoryDisk::new(alloc, Vec::new(alloc), 0, 0, Vec::new(alloc)),
+    ) else {
+        let _ = cause::tell(&mut err, &cause::Cause::NoMemory);
+        return ExitCode::from(cause::status_of(&cause::Cause::NoMemory));
+    };
+    let script = words.get(1).and_then(|path| File::open(&rt, path).ok());
+    let mut script = StdSource::new(script);
+    let served = serve(alloc, &words, &mut script, &mut out, &mut err, disk);
+    ExitCode::from(served.status)
+}
+
+// The words after the program's name. Where one is not UTF-8 there are none, which is a faulty command line.
+fn words_of(rt: &HostRuntime) -> io::Result<Vec<String>> {
+    match env::args(rt) {
+        Ok(words) => Ok(words.skip(1).collect(rt.alloc())?),
+        Err(error) if error.kind() == io::ErrorKind::InvalidData => Ok(Vec::new(rt.alloc())),
+        Err(error) => Err(error),
+    }
+}

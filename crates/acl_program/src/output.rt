@@ -1,0 +1,40 @@
+//! A whole text, written piece by piece.
+ghost use Rattle.std.specs.Prelude.{◌≡◌, ◌++◌, Some, IfSome, OnOk, OnErr};
+ghost use Rattle.acl_ports.specs.Faults.{HasCause};
+ghost use Rattle.acl_program.specs.Streams.{IsPrefixWritten};
+
+use acl_ports::{Failed, Sink};
+
+/// Writes a whole text. A put that fails ends it: no later put is tried.
+pub(crate) fn write_all<K: Sink>(sink: &mut K, text: &[u8]) -> Result<(), Failed>
+    ensures ok { IfSome (K.written sink.old) (λ before.
+        OnOk result (K.written sink.new ≡ Some (before ++ text.now))) }
+    ensures err { IfSome (K.written sink.old) (λ before.
+        OnErr result (IsPrefixWritten before text.now (K.written sink.new))) }
+    ensures cause { HasCause (K.faults sink.old) (K.faults sink.new) result }
+{
+    let mut done = 0;
+    while done < text.len() {
+        done += sink.put(&text[done..])?;
+    }
+    Ok(())
+}
+
+#[cfg(test)]
+mod tests {
+    use super::*;
+    use acl_ports::MemorySink;
+    use std::test::Fail;
+
+    #[test]
+    fn writes_all_or_up_to_the_fault(rt: HostRuntime) -> Result<(), Fail> {
+        let none: &[u64] = &[];
+        for (failing, wanted, text) in [(none, Ok(()), "history 0\n"), (&[1], Err(Failed), "his")] {
+            let failing = failing.to_vec(rt.alloc())?;
+            let mut sink = MemorySink::new(rt.alloc(), 3, 100, failing)?;
+            assert_eq!(rt; write_all(&mut sink, b"history 0\n"), wanted);
+            assert_eq!(rt; sink.written(), text.as_bytes());
+        }
+        Ok(())
+    }
+}

@@ -1,0 +1,115 @@
+//! The program's one call: words and devices in, an end and what was written out.
+ghost use Rattle.std.specs.Prelude.{◌≡◌, ◌≢◌, ◌<◌, ◌^◌, ◌++◌, [], Some, length, IfErr, IfOk, IfSome, IsSomeAnd, OnOk};
+ghost use Rattle.std.specs.List.{All};
+ghost use Rattle.acl_program.specs.Causes.{status};
+ghost use Rattle.acl_program.specs.Rehearsal.{IsRehearsal, IsReport};
+ghost use Rattle.acl_program.specs.declared.cause.Cause.TheVariants.{Fine};
+ghost use Rattle.acl_program.specs.Texts.{text_of_report};
+
+use crate::cause::{Cause, cause_of_input, cause_of_script, status_of, tell};
+use crate::input::read_all;
+use crate::output::write_all;
+use crate::report::{Report, report_of};
+use crate::run::run_lines;
+use crate::script::{Script, read_script};
+use crate::text::report_text;
+use crate::words::is_step;
+use acl_ports::{Disk, Sink, Source};
+use std::alloc::{AllocError, Global};
+
+/// How a run of the program ended.
+#[derive(Drop)]
+pub struct Served<D> {
+    /// The exit status, 0 where all went well.
+    pub status: u8,
+    pub cause: Cause,
+    /// What was answered, where the lines were run.
+    pub report: Option<Report>,
+    /// The disk that was handed in.
+    pub disk: D,
+}
+
+/// Runs the program with the words after its name.
+///
+/// Of an end other than status 0 nothing is claimed but that the disk is handed back as it was.
+pub fn serve<S: Source, K: Sink, E: Sink, D: Disk>(
+    alloc: Global,
+    words: &[String],
+    script: &mut S,
+    out: &mut K,
+    err: &mut E,
+    disk: D,
+) -> Served<D>
+    ensures status { result.status ≡ status result.cause }
+
+    // Status 0: the script was read to its end, its lines have their answers, and the output has their text.
+    ensures read { result.status ≡ 0 →
+        IfSome (S.left script.old) (λ bytes. S.left script.new ≡ Some []) }
+    ensures report { result.status ≡ 0 →
+        IfSome (S.left script.old) (λ bytes. IsSomeAnd result.report (IsRehearsal bytes)) }
+    ensures out { result.status ≡ 0 → IfSome (K.written out.old) (λ before. IsSomeAnd result.report (λ report.
+        K.written out.new ≡ Some (before ++ text_of_report report))) }
+    ensures err { result.status ≡ 0 → err.new ≡ err.old }
+
+    ensures disk { result.disk ≡ disk }
+{
+    let report = match rehearse(alloc, words, script) {
+        Ok(report) => report,
+        Err(cause) => return ended(cause, None, err, disk),
+    };
+    let Ok(text) = report_text(alloc, &report) else {
+        return ended(Cause::NoMemory, Some(report), err, disk);
+    };
+    match write_all(out, text.as_bytes()) {
+        Ok(()) => Served {
+            status: 0,
+            cause: Cause::Fine,
+            report: Some(report),
+            disk,
+        },
+        Err(_) => ended(Cause::WriteFault, Some(report), err, disk),
+    }
+}
+
+// The end with a line on the error stream. A fault there changes nothing else.
+fn ended<E: Sink, D: Disk>(cause: Cause, report: Option<Report>, err: &mut E, disk: D) -> Served<D>
+    requires { cause ≢ Fine }
+    ensures status { result.status ≡ status result.cause }
+    ensures not_fine { result.status ≢ 0 }
+    ensures disk { result.disk ≡ disk }
+{
+    let _ = tell(err, &cause);
+    Served {
+        status: status_of(&cause),
+        cause,
+        report,
+        disk,
+    }
+}
+
+// Reads the script and runs its lines.
+fn rehearse<S: Source>(alloc: Global, words: &[String], source: &mut S) -> Result<Report, Cause>
+    ensures read { OnOk result
+        (IfSome (S.left source.old) (λ bytes. S.left source.new ≡ Some [])) }
+    ensures report { IfOk result (λ report.
+        IfSome (S.left source.old) (λ bytes. IsRehearsal bytes report)) }
+    ensures err { IfErr result (λ cause. cause ≢ Fine) }
+{
+    if !is_step(words) {
+        return Err(Cause::Usage);
+    }
+    let bytes = read_all(alloc, source).map_err(cause_of_input)?;
+    let script = read_script(alloc, &bytes).map_err(cause_of_script)?;
+    run_script(alloc, script).map_err(|_| Cause::NoMemory)
+}
+
+// Runs the lines of a script, and tells what they were answered.
+fn run_script(alloc: Global, script: Script) -> Result<Report, AllocError>
+    requires seated { All (λ line. line.session < length script.sessions.items) script.lines.items }
+    requires count { length script.lines.items < 2 ^ 32 }
+    ensures { IfOk result (IsReport script.sessions.items script.lines.items) }
+{
+    let Script { sessions, lines } = script;
+    let run = run_lines(alloc, sessions.len(), &lines)?;
+    report_of(alloc, sessions, &lines, run.answers, run.accepted)
+}
