@@ -1,0 +1,6 @@
+pub mod Answered
+pub mod Exact
+pub mod Lists
+pub mod Loops
+pub mod Theorem
+pub mod Whole

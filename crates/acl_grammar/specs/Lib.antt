@@ -1,0 +1,6 @@
+pub mod Code
+pub mod Exactness
+pub mod Grammar
+pub mod Reader
+pub mod Spelling
+pub mod Example

@@ -1,0 +1,4 @@
+pub mod Edges
+pub mod Nodes
+pub mod Orders
+pub mod Paths
