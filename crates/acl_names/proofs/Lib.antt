@@ -1,3 +1,4 @@
 pub mod Doubled
+pub mod LowerTexts
 pub mod Lowered
 pub mod SameAuth

@@ -6,7 +6,7 @@ use Rattle.std.specs.Char.{is_ascii_control, to_ascii_lowercase}
 use Rattle.std.specs.List.{position, prefix_len}
 use Rattle.std.specs.Prelude.{None, not}
 use Rattle.std.specs.Str.{chars, chars_after, continuation_len, lead_bits, str_to_ascii_lowercase}
-use Rattle.acl_names.specs.Name.{IsLowerName, name_fault}
+use Rattle.acl_names.specs.Name.{IsLowerName, ident_fault, name_fault}
 
 control-lowered : (b : ℕ) → is_ascii_control (to_ascii_lowercase b) ≡ is_ascii_control b
 control-lowered b = grind (arith, nat_tests)
@@ -39,7 +39,7 @@ length-chars-lowered [] = refl
 length-chars-lowered (b ∷ bs) =
     rw (continuation_len-lowered b) (length-chars_after-lowered (continuation_len b) (lead_bits (to_ascii_lowercase b)) (lead_bits b) bs)
 
-lowered-lowered : (text : List ℕ) → str_to_ascii_lowercase (str_to_ascii_lowercase text) ≡ str_to_ascii_lowercase text
+pub lowered-lowered : (text : List ℕ) → str_to_ascii_lowercase (str_to_ascii_lowercase text) ≡ str_to_ascii_lowercase text
 lowered-lowered [] = refl
 lowered-lowered (b ∷ bs) = λ i. lowercase-lowercase b i ∷ lowered-lowered bs i
 
@@ -49,3 +49,8 @@ name_fault-lowered limit text = simp (position-lowered text, length-chars-lowere
 pub lowered_name : (limit : ℕ) (text : List ℕ) → name_fault limit text ≡ None → IsLowerName limit (str_to_ascii_lowercase text)
 lowered_name limit text faultless =
     record { faultless = name_fault-lowered limit text ∙ faultless; lowered = lowered-lowered text }
+
+-- and so does an identifier
+pub ident_fault-lowered : (limit : ℕ) (text : List ℕ) → ident_fault limit text ≡ None → ident_fault limit (str_to_ascii_lowercase text) ≡ None
+ident_fault-lowered limit [] faultless = faultless
+ident_fault-lowered limit (b ∷ bs) faultless = name_fault-lowered limit (b ∷ bs) ∙ faultless

@@ -3,7 +3,7 @@ use Rattle.std.specs.Prelude.{◌≡◌, ℕ, List, [], ◌∷◌, Option, Some,
 use Rattle.std.specs.Char.{is_ascii_control}
 use Rattle.std.specs.Str.{chars, str_to_ascii_lowercase}
 use Rattle.acl_names.specs.declared.refusal.NameRefusal.{NameRefusal}
-use Rattle.acl_names.specs.declared.refusal.NameRefusal.TheVariants.{BadByte, TooLong, NoMemory}
+use Rattle.acl_names.specs.declared.refusal.NameRefusal.TheVariants.{BadByte, Empty, TooLong, NoMemory}
 
 -- the first control byte of a text, or else what is to be said of the text without one
 abbrev pub control_fault : Option ℕ → Option NameRefusal → Option NameRefusal
@@ -17,6 +17,11 @@ length_fault limit text = if nat_lt limit (length (chars text)) then Some (TooLo
 -- what keeps a text from being a name of at most `limit` characters
 abbrev pub name_fault : ℕ → List ℕ → Option NameRefusal
 name_fault limit text = control_fault (position is_ascii_control text) (length_fault limit text)
+
+-- what keeps a text from being an identifier of at most `limit` characters: it is not empty besides
+abbrev pub ident_fault : ℕ → List ℕ → Option NameRefusal
+ident_fault limit [] = Some Empty
+ident_fault limit (byte ∷ rest) = name_fault limit (byte ∷ rest)
 
 -- `ä` is the bytes 195 and 164, and one character
 example-fits : name_fault 1 (195 ∷ 164 ∷ []) ≡ None
@@ -35,6 +40,7 @@ example-control = refl
 abbrev pub IsRefusal : Option NameRefusal → NameRefusal → Type 0
 IsRefusal fault NoMemory = Unit {0}
 IsRefusal fault (BadByte offset) = fault ≡ Some (BadByte offset)
+IsRefusal fault Empty = fault ≡ Some Empty
 IsRefusal fault (TooLong limit) = fault ≡ Some (TooLong limit)
 
 -- a name of at most `limit` characters in which no ASCII letter is an upper-case one

@@ -7,6 +7,7 @@ ghost use Rattle.std.specs.Ordering.{as_partial_cmp};
 use crate::host::HostText;
 use crate::quoted::Quoted;
 use crate::user::UserName;
+use acl_items::Copied;
 use std::alloc::{AllocError, Global};
 use std::cmp::Ordering;
 use std::fmt;
@@ -44,6 +45,12 @@ impl AuthId {
         ensures ok { OnOk result (string_bytes text.new ≡ string_bytes text.old ++ auth_text self.now) }
     {
         write!(text, "{self}")
+    }
+}
+
+impl Copied for AuthId {
+    fn copied(&self, alloc: Global) -> Result<Self, AllocError> {
+        self.copy(alloc)
     }
 }
 

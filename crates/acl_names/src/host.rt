@@ -11,6 +11,7 @@ ghost use Rattle.acl_names.specs.Text.{text_cmp, text_eq};
 
 use crate::name::fault_of;
 use crate::refusal::NameRefusal;
+use acl_items::Copied;
 use std::alloc::{AllocError, Global};
 use std::cmp::Ordering;
 use std::hash::{Hash, Hasher};
@@ -66,6 +67,12 @@ impl HostText {
         Ok(HostText {
             text: String::from_str(alloc, self.text.as_str())?,
         })
+    }
+}
+
+impl Copied for HostText {
+    fn copied(&self, alloc: Global) -> Result<Self, AllocError> {
+        self.copy(alloc)
     }
 }
 

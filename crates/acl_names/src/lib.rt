@@ -1,21 +1,29 @@
-//! The names of accounts: users, hosts and the pair of both, each kept within its rules from the moment it is read.
+//! Names: users, hosts and the accounts that they form, and identifiers of schemas and what stands in them, each kept
+//! within its rules from the moment it is read; and the small types that speak of accounts.
 #![tactic(auto)]
 
 mod auth;
+mod caller;
 mod host;
+mod ident;
 mod name;
+mod policy;
 mod quoted;
 mod refusal;
 mod user;
 
 pub use auth::AuthId;
+pub use caller::Caller;
 pub use host::{HOST_LIMIT, HostText};
+pub use ident::{IDENT_LIMIT, Ident};
+pub use policy::{LockTime, Policy, Verifier};
 pub use refusal::NameRefusal;
 pub use user::{USER_LIMIT, UserName};
 
 #[cfg(test)]
 mod tests {
     use super::*;
+    use acl_items::Copied;
     use std::alloc::Global;
     use std::cmp::Ordering;
     use std::process::Abort;
@@ -60,6 +68,43 @@ mod tests {
             match HostText::read(alloc, text.as_str()) {
                 Ok(host) => assert_eq!(rt; (host.as_str(), None), (lowered.as_str(), no_host)),
                 Err(refusal) => assert_eq!(rt; Some(refusal), no_host),
+            }
+        }
+        Ok(())
+    }
+
+    #[test]
+    fn reads_identifiers_within_their_limit(rt: HostRuntime) -> Result<(), Fail> {
+        let alloc = rt.alloc();
+        let too_long = Some(NameRefusal::TooLong { limit: 64 });
+        let control = Some(NameRefusal::BadByte { offset: 1 });
+        let cases = [
+            ("", 1, Some(NameRefusal::Empty), ""),
+            ("Order Line", 1, None, "order line"),
+            ("\u{c4}", 64, None, "\u{c4}"),
+            ("\u{1f600}", 65, too_long, ""),
+            ("a\u{1f}", 65, control, ""),
+            ("a\u{7f}", 1, control, ""),
+        ];
+        for (piece, times, refusal, lowered) in cases {
+            let text = piece.repeat(alloc, times)?;
+            assert!(rt; text.len() < 10_000);
+            let lowered = lowered.repeat(alloc, times)?;
+            match (
+                Ident::read(alloc, text.as_str()),
+                Ident::read_lower(alloc, text.as_str()),
+            ) {
+                (Ok(name), Ok(low)) => {
+                    assert_eq!(rt; (name.as_str(), None), (text.as_str(), refusal));
+                    assert_eq!(rt; low.as_str(), lowered.as_str());
+                    assert_eq!(rt; name.is(&low), text == lowered);
+                    assert!(rt; low.copied(alloc)?.is(&low));
+                    assert_eq!(rt; name.cmp(&low), text.cmp(&lowered));
+                }
+                (read, low) => {
+                    assert_eq!(rt; read.err(), refusal);
+                    assert_eq!(rt; low.err(), refusal);
+                }
             }
         }
         Ok(())

@@ -1,7 +1,7 @@
 ghost use Rattle.std.specs.Prelude.{◌≡◌, ◌<◌, ◌^◌, length, position};
 ghost use Rattle.std.specs.Char.{is_ascii_control};
 ghost use Rattle.std.specs.Str.{chars};
-ghost use Rattle.acl_names.specs.Name.{name_fault};
+ghost use Rattle.acl_names.specs.Name.{ident_fault, name_fault};
 
 use crate::refusal::NameRefusal;
 
@@ -18,6 +18,17 @@ pub(crate) fn fault_of(text: &str, limit: u32) -> Option<NameRefusal>
         return Some(NameRefusal::TooLong { limit });
     }
     None
+}
+
+/// What keeps `text` from being an identifier of at most `limit` characters.
+pub(crate) fn ident_fault_of(text: &str, limit: u32) -> Option<NameRefusal>
+    requires { length text.now < 2 ^ 32 }
+    ensures { result ≡ ident_fault limit text.now }
+{
+    if text.is_empty() {
+        return Some(NameRefusal::Empty);
+    }
+    fault_of(text, limit)
 }
 
 fn first_control_byte(text: &str) -> Option<usize>

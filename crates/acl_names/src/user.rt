@@ -10,6 +10,7 @@ ghost use Rattle.acl_names.specs.Text.{text_cmp, text_eq};
 
 use crate::name::fault_of;
 use crate::refusal::NameRefusal;
+use acl_items::Copied;
 use std::alloc::{AllocError, Global};
 use std::cmp::Ordering;
 use std::hash::{Hash, Hasher};
@@ -64,6 +65,12 @@ impl UserName {
         Ok(UserName {
             text: String::from_str(alloc, self.text.as_str())?,
         })
+    }
+}
+
+impl Copied for UserName {
+    fn copied(&self, alloc: Global) -> Result<Self, AllocError> {
+        self.copy(alloc)
     }
 }
 
