@@ -60,10 +60,10 @@ impl Rows {
     /// The static privileges that the account holds on `*.*`, each by its number.
     pub fn global_level(&self, account: &AuthId) -> Static
         ensures { (p : ℕ) → holds result p ≡
-            (nat_lt p 30 && state_of self.now (GlobalRow account.now p)) }
+            (nat_lt p 31 && state_of self.now (GlobalRow account.now p)) }
     {
         let mut level = Static::none();
-        for number in 0..30u8 {
+        for number in 0..31u8 {
             let privilege = Plain::new(number);
             level = joined(level, privilege, self.holds_globally(account, privilege));
         }

@@ -1,3 +1,9 @@
+pub mod DynamicIter
+pub mod DynamicNames
+pub mod DynamicSet
+pub mod Levels
 pub mod PlainNames
+pub mod Privileges
 pub mod StaticFlags
+pub mod StaticIter
 pub mod StaticSet

@@ -1,4 +1,4 @@
--- The names of the static privileges.
+-- The names of the static privileges and of GRANT OPTION.
 use Rattle.std.specs.Prelude.{ℕ, Bool, true, false, ◌&&◌, ◌||◌, ◌==◌, nat_le, if◌then◌else◌, List, [], ◌∷◌, slice_index_or, codes}
 
 -- the names, by the numbers of the privileges
@@ -9,9 +9,10 @@ plain_names =
     codes "REFERENCES" ∷ codes "INDEX" ∷ codes "ALTER" ∷ codes "SHOW DATABASES" ∷ codes "SUPER" ∷
     codes "CREATE TEMPORARY TABLES" ∷ codes "LOCK TABLES" ∷ codes "EXECUTE" ∷ codes "REPLICATION SLAVE" ∷ codes "REPLICATION CLIENT" ∷
     codes "CREATE VIEW" ∷ codes "SHOW VIEW" ∷ codes "CREATE ROUTINE" ∷ codes "ALTER ROUTINE" ∷ codes "CREATE USER" ∷
-    codes "EVENT" ∷ codes "TRIGGER" ∷ codes "CREATE TABLESPACE" ∷ codes "CREATE ROLE" ∷ codes "DROP ROLE" ∷ []
+    codes "EVENT" ∷ codes "TRIGGER" ∷ codes "CREATE TABLESPACE" ∷ codes "CREATE ROLE" ∷ codes "DROP ROLE" ∷
+    codes "GRANT OPTION" ∷ []
 
--- the name of the privilege of a number; the empty text from 30 on
+-- the name of the privilege of a number; the empty text from 31 on
 abbrev pub plain_name : ℕ → List ℕ
 plain_name number = slice_index_or plain_names number []
 

@@ -1,14 +1,16 @@
-//! Static privileges and their names.
-ghost use Rattle.std.specs.Prelude.{◌≡◌, ◌≢◌, ℕ, ◌<◌, ◌↔◌, [], IsTrue, IsNone, IfSome, Some, map};
+//! Static privileges, their names and their levels.
+ghost use Rattle.std.specs.Prelude.{◌≡◌, ◌≢◌, ℕ, ◌<◌, ◌↔◌, IsTrue, IsNone, IfSome, Some, map};
 ghost use Rattle.std.specs.Fmt.{padded};
-ghost use Rattle.std.specs.List.{All};
-ghost use Rattle.priv_sets.specs.PlainNames.{plain_names, plain_name, is_capital_or_space, is_words};
+ghost use Rattle.std.specs.Str.{str_to_ascii_uppercase};
+ghost use Rattle.priv_sets.specs.Levels.{has_level};
+ghost use Rattle.priv_sets.specs.PlainNames.{plain_names, plain_name};
 
+use crate::{Level, Static};
 use std::fmt;
 use std::marker::Model;
 
 // By the numbers of the privileges.
-static NAMES: [&str; 30] = [
+static NAMES: [&str; 31] = [
     "SELECT",
     "INSERT",
     "UPDATE",
@@ -39,9 +41,11 @@ static NAMES: [&str; 30] = [
     "CREATE TABLESPACE",
     "CREATE ROLE",
     "DROP ROLE",
+    "GRANT OPTION",
 ];
 
-/// A static privilege, which contracts see as its number: 0 to 29, in the order of the names.
+/// A static privilege or GRANT OPTION, which contracts see as its number: 0 to 29 in the order of the
+/// names, and 30 for GRANT OPTION.
 ///
 /// MySQL 8.0 Reference Manual, "Privileges Provided by MySQL".
 #[derive(Clone, Copy, Debug, PartialEq, Eq, PartialOrd, Ord, Hash)]
@@ -54,7 +58,7 @@ impl Model for Plain {
 
     ghost view = { λ p. p.number };
 
-    ghost invariant = { λ p. p.number < 30 };
+    ghost invariant = { λ p. p.number < 31 };
 
     ghost inverse = { λ n. record { number = n } };
 }
@@ -62,7 +66,7 @@ impl Model for Plain {
 impl Plain {
     /// The privilege of a number.
     pub fn new(number: u8) -> Plain
-        requires { number < 30 }
+        requires { number < 31 }
         ensures { result ≡ number }
     {
         Plain { number }
@@ -71,7 +75,7 @@ impl Plain {
     /// The number of the privilege.
     pub fn number(self) -> u8
         ensures same { result ≡ self }
-        ensures below { result < 30 }
+        ensures below { result < 31 }
     {
         self.number
     }
@@ -80,18 +84,21 @@ impl Plain {
     pub fn name(self) -> &'static str
         ensures { result.now ≡ plain_name self }
     {
-        table()[usize::from(self.number)]
+        plain_table()[usize::from(self.number)]
     }
 
-    /// The privilege of a name, by bytes: in capitals, with one space between two words.
+    /// The static privilege or GRANT OPTION of a name, in any ASCII case, with one space between two
+    /// words.
     #[tactic(auto, using(crate::proofs::Names::distinct_names))]
     pub fn by_name(words: &str) -> Option<Plain>
-        ensures below { IfSome result (λ p. p < 30) }
-        ensures found { IfSome result (λ p. words.now ≡ plain_name p) }
-        ensures only { (p : ℕ) → p < 30 → words.now ≡ plain_name p → result ≡ Some p }
-        ensures none { IsNone result ↔ ((p : ℕ) → p < 30 → words.now ≢ plain_name p) }
+        ensures below { IfSome result (λ p. p < 31) }
+        ensures found { IfSome result (λ p. str_to_ascii_uppercase words.now ≡ plain_name p) }
+        ensures only { (p : ℕ) → p < 31 →
+            str_to_ascii_uppercase words.now ≡ plain_name p → result ≡ Some p }
+        ensures none { IsNone result ↔
+            ((p : ℕ) → p < 31 → str_to_ascii_uppercase words.now ≢ plain_name p) }
     {
-        for number in 0..30 {
+        for number in 0..31 {
             let plain = Plain::new(number);
             if plain.is_named(words) {
                 return Some(plain);
@@ -101,9 +108,16 @@ impl Plain {
     }
 
     fn is_named(self, words: &str) -> bool
-        ensures { IsTrue result ↔ (words.now ≡ plain_name self) }
+        ensures { IsTrue result ↔ (str_to_ascii_uppercase words.now ≡ plain_name self) }
     {
-        self.name() == words
+        self.name().eq_ignore_ascii_case(words)
+    }
+
+    /// Whether the privilege is granted at a level.
+    pub fn has_level(self, level: Level) -> bool
+        ensures { result ≡ has_level level self }
+    {
+        Static::at_level(level).has(self)
     }
 }
 
@@ -118,21 +132,8 @@ impl fmt::Display for Plain {
     }
 }
 
-/// The law that no two privileges have one name. It does nothing when it runs.
-pub fn names_are_distinct()
-    ensures { (p q : ℕ) → p < 30 → q < 30 → plain_name p ≡ plain_name q → p ≡ q }
-{}
-
-/// The law that a name is one or more words in capitals, with one space between two words. It does
-/// nothing when it runs.
-pub fn names_are_words()
-    ensures words { (p : ℕ) → p < 30 → IsTrue (is_words (plain_name p)) }
-    ensures bytes { (p : ℕ) → p < 30 → All (λ byte. IsTrue (is_capital_or_space byte)) (plain_name p) }
-    ensures not_empty { (p : ℕ) → p < 30 → plain_name p ≢ [] }
-{}
-
 // The names, in order.
-fn table() -> &'static [&'static str; 30]
+fn plain_table() -> &'static [&'static str; 31]
     ensures { map (λ name. name.now) result.now ≡ plain_names }
 {
     &NAMES

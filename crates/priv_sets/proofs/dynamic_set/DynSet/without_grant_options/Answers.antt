@@ -1,0 +1,12 @@
+use Rattle.std.proofs.Common.{refl}
+use Rattle.priv_sets.specs.DynamicSet.{holds_dynamic, grants_dynamic}
+use Rattle.priv_sets.proofs.Bits.{zero_bits}
+use Rattle.priv_sets.proofs.dynamic_set.DynSet.without_grant_options.Goals as goal
+
+pub returns-clause-held : goal.returns-clause-held
+unfolding holds_dynamic grants_dynamic
+returns-clause-held c = λ q. refl
+
+pub returns-clause-grantable : goal.returns-clause-grantable
+unfolding holds_dynamic grants_dynamic
+returns-clause-grantable c = zero_bits
