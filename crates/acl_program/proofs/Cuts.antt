@@ -1,5 +1,5 @@
 -- Texts that are cut at parts that are written out.
-use Rattle.std.proofs.Common.{◌≡◌, ◌≢◌, ℕ, ◌<◌, Bool, true, false, ◌||◌, ◌&&◌, ◌==◌, List, [], ◌∷◌, ◌++◌, length, get_or, codes, Option, None, Some, MatchOption, IsSomeAnd, append_assoc, ◌∙◌, sym, ap, refl}
+use Rattle.std.proofs.Common.{◌≡◌, ◌≢◌, ℕ, ◌<◌, Bool, true, false, ◌||◌, ◌&&◌, ◌==◌, List, [], ◌∷◌, ◌++◌, length, get_or, codes, Option, None, Some, MatchOption, IsSomeAnd, append_assoc, ◌∙◌, sym, ap, refl, arith}
 use Rattle.std.specs.List.{list_all}
 use Rattle.std.proofs.lemmas.Bool.{and_parts}
 use Rattle.std.proofs.lemmas.List.Folds.{list_all-append, list_all_at}
@@ -32,4 +32,4 @@ pub no_quote : (privilege : ℕ) → privilege < 30 → (i : ℕ) → i < length
 unfolding is_unquoted
 no_quote privilege below =
     absent_from is_unquoted 39 (plain_name privilege ++ codes " ON *.* TO ")
-    (list_all-append is_unquoted (plain_name privilege) (codes " ON *.* TO ") ∙ ap (λ b. b && true) (unquoted_words (plain_name privilege) (names_of_capitals privilege below))) refl
+    (list_all-append is_unquoted (plain_name privilege) (codes " ON *.* TO ") ∙ ap (λ b. b && true) (unquoted_words (plain_name privilege) (names_of_capitals privilege (omega arith)))) refl

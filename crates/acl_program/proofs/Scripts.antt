@@ -8,15 +8,21 @@ use Rattle.std.proofs.Math.ListN.{get_or-append}
 use Rattle.std.proofs.Math.Seq.{drop-length, drop-cons, take-length, get_or-append_seam}
 use Rattle.std.proofs.lemmas.List.{length-map, map-append, get_or-take, length-drop, length-take-le, take-append-drop}
 use Rattle.std.proofs.lemmas.List.Elements.{filter-append}
-use Rattle.acl_program.specs.Adding.{with_name, Seats, Adds}
+use Rattle.acl_program.specs.Adding.{with_name, Adds, IsNotAdded, IsNotSeated, Seats}
 use Rattle.std.proofs.lemmas.Bool.{false_from_ne_true, not-true}
 use Rattle.std.proofs.lemmas.Bool.Decides.{nat_tests}
 use Rattle.std.proofs.lemmas.List.Folds.{list_any_at, list_any_none}
 use Rattle.std.proofs.lemmas.List.Quantifiers.{position-Some}
 use Rattle.std.proofs.lemmas.List.Sums.{prefix_len_passes}
+use Rattle.acl_program.specs.Refusals.{IsRefused, IsWithinLimits}
 use Rattle.acl_program.specs.Script.{lines_in, first_appearances, line_text, owner, IsLine, IsNumbered, AreLines, IsScript}
-use Rattle.acl_program.specs.Spelling.{is_session_name}
+use Rattle.acl_program.specs.Spelling.{is_session_name, IsCommand}
+use Rattle.acl_program.specs.declared.command.Command.{Command}
 use Rattle.acl_program.specs.declared.command.Line.{Line}
+use Rattle.acl_program.specs.declared.script.ParseRefusal.TheVariants.{Syntax}
+use Rattle.acl_program.specs.declared.script.ScriptRefusal.{ScriptRefusal}
+use Rattle.acl_program.specs.declared.script.ScriptRefusal.TheVariants.{BadLine, Limit, NoMemory}
+use Rattle.acl_program.specs.declared.script.Which.TheVariants.{Bytes, Lines, Sessions}
 
 -- lines
 
@@ -85,7 +91,7 @@ same_bytes a b = (bytes_eq-Decides a b).0
 bytes_eq-same : (a b : List ℕ) → a ≡ b → bytes_eq a b ≡ true
 bytes_eq-same a b = (bytes_eq-Decides a b).1
 
-abbrev any_of : List (List ℕ) → List ℕ → Bool
+abbrev pub any_of : List (List ℕ) → List ℕ → Bool
 any_of names name = list_any (λ other. bytes_eq other name) names
 
 -- dropping another name leaves the test for a name
@@ -141,10 +147,10 @@ nat_lt_cases : (a b : ℕ) (t : Bool) → nat_lt a b ≡ t → ((t ≡ true) × 
 nat_lt_cases a b true e = inl (refl, ltb-true a b e)
 nat_lt_cases a b false e = inr (refl, grind (arith, nat_tests))
 
-nat_lt_tells : (a b : ℕ) → ((nat_lt a b ≡ true) × (a < b)) ⊎ ((nat_lt a b ≡ false) × (b ≤ a))
+pub nat_lt_tells : (a b : ℕ) → ((nat_lt a b ≡ true) × (a < b)) ⊎ ((nat_lt a b ≡ false) × (b ≤ a))
 nat_lt_tells a b = nat_lt_cases a b (nat_lt a b) refl
 
-none_passes : {X : Type 0} (p : X → Bool) (xs : List X) → position p xs ≡ None → list_any p xs ≡ false
+pub none_passes : {X : Type 0} (p : X → Bool) (xs : List X) → position p xs ≡ None → list_any p xs ≡ false
 none_passes p xs none =
     elim (nat_lt_tells (position_or_len p xs) (length xs)) [
       | inl found ↦
@@ -166,7 +172,7 @@ keeps_step : (names : List (List ℕ)) (name : List ℕ) (b : Bool) (i : ℕ) �
 keeps_step names name true i below = refl
 keeps_step names name false i below = get_or-append names (name ∷ []) [] i below
 
-grows_step : (names : List (List ℕ)) (name : List ℕ) (b : Bool) → length names ≤ length (if b then names else names ++ name ∷ [])
+pub grows_step : (names : List (List ℕ)) (name : List ℕ) (b : Bool) → length names ≤ length (if b then names else names ++ name ∷ [])
 grows_step names name true = omega arith
 grows_step names name false = omega (arith, length-append names (name ∷ []))
 
@@ -262,3 +268,74 @@ pub read_all : (bytes rest : List ℕ) (names : List (List ℕ)) (lines : List L
 read_all bytes rest names lines so_far end =
     let P : List (List ℕ) → Type 0 = λ texts. AreLines texts names lines in
     subst P (sym (so_far.split ∙ ap (λ more. so_far.texts ++ lines_in more) end ∙ append-nil so_far.texts)) so_far.are_lines
+
+-- as many lines as texts
+pub line_count : (texts names : List (List ℕ)) (lines : List Line) → AreLines texts names lines → length lines ≡ length texts
+line_count texts names lines are =
+    sym (length-map lines (λ (l : Line). line_text (owner names l) l.command)) ∙ ap length are.spelled
+
+-- a line that is not added refuses the script
+pub refused_here : (bytes rest text behind : List ℕ) (names : List (List ℕ)) (lines : List Line) (refusal : ScriptRefusal) → IsReadUpTo bytes rest names lines
+    → lines_in rest ≡ text ∷ lines_in behind → IsWithinLimits bytes → IsNotAdded text names lines refusal → IsRefused bytes refusal
+refused_here bytes rest text behind names lines (BadLine number (Syntax offset)) so_far first within why = (
+  why.0,
+  within,
+  record {
+    front = so_far.texts;
+    text = text;
+    behind = lines_in behind;
+    texts_are = so_far.split ∙ ap (λ more. so_far.texts ++ more) first;
+    number_is = why.1 ∙ ap (λ n. n + 1) (line_count so_far.texts names lines so_far.are_lines);
+    spelled = record { names = names; lines = lines; are_lines = so_far.are_lines };
+    few = so_far.few;
+    unspelled = why.2;
+  },
+)
+refused_here bytes rest text behind names lines (Limit Bytes number) so_far first within why = absurd why
+refused_here bytes rest text behind names lines (Limit Lines number) so_far first within why = absurd why
+refused_here bytes rest text behind names lines (Limit Sessions number) so_far first within why = (
+  why.0,
+  within,
+  record {
+    front = so_far.texts ++ text ∷ [];
+    behind = lines_in behind;
+    texts_are = so_far.split ∙ ap (λ more. so_far.texts ++ more) first ∙ sym (append_assoc so_far.texts (text ∷ []) (lines_in behind));
+    spelled = record {
+      names = why.1.new_names;
+      lines = why.1.new_lines;
+      are_lines = are_lines-push so_far.texts text names why.1.new_names lines why.1.new_lines so_far.are_lines why.1.adds;
+    };
+    many = why.1.many;
+  },
+)
+refused_here bytes rest text behind names lines NoMemory so_far first within why = tt
+
+-- a spelled line whose session is not seated is not added
+pub not_seated : (text name : List ℕ) (command : Command) (names : List (List ℕ)) (lines : List Line) (refusal : ScriptRefusal) → IsTrue (is_session_name name) → IsCommand command
+    → text ≡ line_text name command → IsNotSeated names name refusal → IsNotAdded text names lines refusal
+not_seated text name command names lines (BadLine number refusal) is_name is_command text_is why = absurd why
+not_seated text name command names lines (Limit Bytes number) is_name is_command text_is why = absurd why
+not_seated text name command names lines (Limit Lines number) is_name is_command text_is why = absurd why
+not_seated text name command names lines (Limit Sessions number) is_name is_command text_is why = (
+  why.0,
+  record {
+    new_names = names ++ name ∷ [];
+    new_lines = lines ++ record { number = length lines + 1; session = length names; command = command } ∷ [];
+    adds = record {
+      name = name;
+      command = command;
+      session = length names;
+      is_name = is_name;
+      is_command = is_command;
+      text_is = text_is;
+      seats = record {
+        names_are = ap (λ b. if b then names else names ++ name ∷ []) (sym why.2);
+        within = omega (arith, length-append names (name ∷ []));
+        named = get_or-append_seam names name [] [];
+      };
+      lines_are = refl;
+    };
+    many = omega (arith, why.1, length-append names (name ∷ []));
+  },
+)
+not_seated text name command names lines NoMemory is_name is_command text_is why = tt

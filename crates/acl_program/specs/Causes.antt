@@ -1,7 +1,16 @@
 -- How the program may end.
-use Rattle.std.specs.Prelude.{ℕ}
+use Rattle.std.specs.Prelude.{ℕ, List, [], ◌++◌, codes, decimal, Result, Ok, Err}
 use Rattle.acl_program.specs.declared.cause.Cause.{Cause}
 use Rattle.acl_program.specs.declared.cause.Cause.TheVariants.{Fine, Usage, BadScript, ReadFault, WriteFault, NoMemory, Limit}
+use Rattle.acl_program.specs.declared.input.InputFault.{InputFault}
+use Rattle.acl_program.specs.declared.input.InputFault.TheVariants.{Failed, TooLong, NoMemory as NoMemoryForInput}
+use Rattle.acl_program.specs.declared.report.Report.{Report}
+use Rattle.acl_program.specs.declared.script.ParseRefusal.{ParseRefusal}
+use Rattle.acl_program.specs.declared.script.ParseRefusal.TheVariants.{Syntax}
+use Rattle.acl_program.specs.declared.script.ScriptRefusal.{ScriptRefusal}
+use Rattle.acl_program.specs.declared.script.ScriptRefusal.TheVariants.{BadLine, Limit as LimitOfScript, NoMemory as NoMemoryForScript}
+use Rattle.acl_program.specs.declared.script.Which.{Which}
+use Rattle.acl_program.specs.declared.script.Which.TheVariants.{Bytes, Lines, Sessions}
 
 -- the exit status
 abbrev pub status : Cause → ℕ
@@ -12,3 +21,41 @@ status ReadFault = 4
 status WriteFault = 5
 status NoMemory = 8
 status (Limit which number) = 9
+
+-- what a limit counts
+abbrev pub counted : Which → List ℕ
+counted Bytes = codes "bytes"
+counted Lines = codes "lines"
+counted Sessions = codes "sessions"
+
+-- where a line is refused
+abbrev pub offset_of : ParseRefusal → ℕ
+offset_of (Syntax offset) = offset
+
+-- the line on the error stream
+abbrev pub text_of_cause : Cause → List ℕ
+text_of_cause Fine = []
+text_of_cause Usage = codes "usage: acl step SCRIPT JOURNAL\n"
+text_of_cause (BadScript line refusal) =
+    codes "line " ++ (decimal line ++ (codes ": syntax at " ++ (decimal (offset_of refusal) ++ codes "\n")))
+text_of_cause ReadFault = codes "read fault\n"
+text_of_cause WriteFault = codes "write fault\n"
+text_of_cause NoMemory = codes "no memory\n"
+text_of_cause (Limit which number) = codes "limit " ++ (counted which ++ (codes " " ++ (decimal number ++ codes "\n")))
+
+-- how the program ends where its input is not read
+abbrev pub cause_of_fault : InputFault → Cause
+cause_of_fault Failed = ReadFault
+cause_of_fault TooLong = Limit Bytes 16777216
+cause_of_fault NoMemoryForInput = NoMemory
+
+-- how it ends where its script is refused
+abbrev pub cause_of_refusal : ScriptRefusal → Cause
+cause_of_refusal (BadLine line refusal) = BadScript line refusal
+cause_of_refusal (LimitOfScript which number) = Limit which number
+cause_of_refusal NoMemoryForScript = NoMemory
+
+-- how it ends so far, before the report is written
+abbrev pub cause_so_far : Result Report Cause → Cause
+cause_so_far (Ok report) = Fine
+cause_so_far (Err cause) = cause

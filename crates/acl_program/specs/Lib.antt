@@ -2,6 +2,8 @@ pub mod Adding
 pub mod Answers
 pub mod Causes
 pub mod Effects
+pub mod Endings
+pub mod Refusals
 pub mod Rehearsal
 pub mod Reports
 pub mod Script

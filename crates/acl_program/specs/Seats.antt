@@ -34,7 +34,7 @@ StandsFor None None = Unit {0}
 StandsFor None (Some acting) = ⊥
 StandsFor (Some seat) None = ⊥
 StandsFor (Some seat) (Some acting) =
-    (seat.account ≡ acting.account) × ((privilege : ℕ) → privilege < 30 → holds seat.level privilege ≡ acting.holds privilege)
+    (seat.account ≡ acting.account) × ((privilege : ℕ) → privilege < 31 → holds seat.level privilege ≡ acting.holds privilege)
 
 -- the session is seated anew, as a CONNECT with this answer leaves it
 abbrev pub IsSeatedAnew : State → ℕ → Answer → List (Option Seat) → List (Option Seat) → Type 0
@@ -48,7 +48,7 @@ Seats state session command answer old new = new ≡ old
 
 -- a CHECK names a static privilege
 abbrev pub IsInTable : Command → Type 0
-IsInTable (Check privilege) = privilege < 30
+IsInTable (Check privilege) = privilege < 31
 IsInTable command = Unit {0}
 
 -- what is stored is what stands after these turns

@@ -1,10 +1,11 @@
 //! Why the program ended, with its status and its line on the error stream.
-ghost use Rattle.std.specs.Prelude.{◌≡◌, ◌≢◌};
-ghost use Rattle.acl_program.specs.Causes.{status};
-ghost use Rattle.acl_program.specs.declared.cause.Cause.TheVariants.{Fine};
+ghost use Rattle.std.specs.Prelude.{◌≡◌, ◌++◌, Some, IfSome, OnErr, OnOk};
+ghost use Rattle.acl_ports.specs.Faults.{HasCause};
+ghost use Rattle.acl_program.specs.Causes.{cause_of_fault, cause_of_refusal, counted as counted_text, offset_of, status, text_of_cause};
+ghost use Rattle.acl_program.specs.Streams.{IsPrefixWritten};
 
 use crate::input::{InputFault, MOST_BYTES};
-use crate::output::write_all;
+use crate::output::write_parts;
 use crate::script::{ParseRefusal, ScriptRefusal, Which};
 use acl_ports::{Failed, Sink};
 
@@ -43,7 +44,7 @@ pub fn status_of(cause: &Cause) -> u8
 
 /// Why an input was not read.
 pub(crate) fn cause_of_input(fault: InputFault) -> Cause
-    ensures { result ≢ Fine }
+    ensures { result ≡ cause_of_fault fault }
 {
     match fault {
         InputFault::Failed => Cause::ReadFault,
@@ -57,7 +58,7 @@ pub(crate) fn cause_of_input(fault: InputFault) -> Cause
 
 /// Why a script was not read.
 pub(crate) fn cause_of_script(refusal: ScriptRefusal) -> Cause
-    ensures { result ≢ Fine }
+    ensures { result ≡ cause_of_refusal refusal }
 {
     match refusal {
         ScriptRefusal::BadLine { line, refusal } => Cause::BadScript { line, refusal },
@@ -67,37 +68,51 @@ pub(crate) fn cause_of_script(refusal: ScriptRefusal) -> Cause
 }
 
 /// Writes the line that names the cause. It takes no memory.
-pub(crate) fn tell<E: Sink>(err: &mut E, cause: &Cause) -> Result<(), Failed> {
+pub(crate) fn tell<E: Sink>(err: &mut E, cause: &Cause) -> Result<(), Failed>
+    ensures ok { IfSome (E.written err.old) (λ before.
+        OnOk result (E.written err.new ≡ Some (before ++ text_of_cause cause.now))) }
+    ensures err { IfSome (E.written err.old) (λ before.
+        OnErr result (IsPrefixWritten before (text_of_cause cause.now) (E.written err.new))) }
+    ensures cause { HasCause (E.faults err.old) (E.faults err.new) result }
+{
     match *cause {
-        Cause::Fine => Ok(()),
-        Cause::Usage => write_all(err, b"usage: acl step SCRIPT JOURNAL\n"),
+        Cause::Fine => write_parts(err, &[]),
+        Cause::Usage => write_parts(err, &["usage: acl step SCRIPT JOURNAL\n"]),
         Cause::BadScript { line, refusal } => {
-            let ParseRefusal::Syntax { offset } = refusal;
-            write_all(err, b"line ")?;
-            tell_number(err, u64::from(line))?;
-            write_all(err, b": syntax at ")?;
-            tell_number(err, u64::from(offset))?;
-            write_all(err, b"\n")
+            let offset = offset_in(refusal);
+            let mut place = itoa::Buffer::new();
+            let mut number = itoa::Buffer::new();
+            let parts = [
+                "line ",
+                number.format(line),
+                ": syntax at ",
+                place.format(offset),
+                "\n",
+            ];
+            write_parts(err, &parts)
         }
-        Cause::ReadFault => write_all(err, b"read fault\n"),
-        Cause::WriteFault => write_all(err, b"write fault\n"),
-        Cause::NoMemory => write_all(err, b"no memory\n"),
+        Cause::ReadFault => write_parts(err, &["read fault\n"]),
+        Cause::WriteFault => write_parts(err, &["write fault\n"]),
+        Cause::NoMemory => write_parts(err, &["no memory\n"]),
         Cause::Limit { which, number } => {
-            write_all(err, b"limit ")?;
-            write_all(err, counted(which).as_bytes())?;
-            write_all(err, b" ")?;
-            tell_number(err, number)?;
-            write_all(err, b"\n")
+            let mut digits = itoa::Buffer::new();
+            let parts = ["limit ", counted(which), " ", digits.format(number), "\n"];
+            write_parts(err, &parts)
         }
     }
 }
 
-fn tell_number<E: Sink>(err: &mut E, number: u64) -> Result<(), Failed> {
-    let mut digits = itoa::Buffer::new();
-    write_all(err, digits.format(number).as_bytes())
+// The byte at which a line is no line any more.
+fn offset_in(refusal: ParseRefusal) -> u32
+    ensures { result ≡ offset_of refusal }
+{
+    let ParseRefusal::Syntax { offset } = refusal;
+    offset
 }
 
-fn counted(which: Which) -> &'static str {
+fn counted(which: Which) -> &'static str
+    ensures { result.now ≡ counted_text which }
+{
     match which {
         Which::Bytes => "bytes",
         Which::Lines => "lines",

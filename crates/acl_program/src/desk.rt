@@ -134,7 +134,7 @@ fn apply(alloc: Global, rows: &mut Rows, statement: &Statement) -> Result<(), Al
 
 fn check(seat: &Option<Seat>, privilege: Plain) -> Answer
     ensures told { result ≡ check_answer (acting_of seat.now) privilege }
-    ensures in_table { privilege < 30 }
+    ensures in_table { privilege < 31 }
 {
     let _number = privilege.number();
     match seat {

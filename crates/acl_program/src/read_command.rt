@@ -1,5 +1,5 @@
 //! Reads the commands of a script.
-ghost use Rattle.std.specs.Prelude.{◌≡◌, ℕ, ◌<◌, ◌≤◌, ◌++◌, List, length, IsTrue, IsSomeAnd, IfOk, IfSome, codes};
+ghost use Rattle.std.specs.Prelude.{◌≡◌, ℕ, ◌<◌, ◌≤◌, ◌↔◌, ◌++◌, List, length, IsTrue, IsSomeAnd, IfOk, IfSome, codes};
 ghost use Rattle.std.specs.Char.{is_ascii_digit};
 ghost use Rattle.std.specs.List.{list_all};
 ghost use Rattle.acl_names.specs.declared.auth.AuthId.{AuthId};
@@ -60,7 +60,27 @@ fn checked_privilege(rest: &str) -> Option<Plain>
     ensures only { (privilege : ℕ) → privilege < 30 →
         rest.now ≡ plain_name privilege ++ codes " ON *.*" → result ≡ Some privilege }
 {
-    Plain::by_name(before(rest, " ON *.*")?)
+    static_privilege(before(rest, " ON *.*")?)
+}
+
+// The static privilege that is spelled in capitals. GRANT OPTION is none.
+fn static_privilege(words: &str) -> Option<Plain>
+    ensures found { IfSome result (λ privilege.
+        (privilege < 30) × (words.now ≡ plain_name privilege)) }
+    ensures only { (privilege : ℕ) → privilege < 30 →
+        words.now ≡ plain_name privilege → result ≡ Some privilege }
+{
+    let privilege = Plain::by_name(words)?;
+    if is_static(privilege, words) {
+        return Some(privilege);
+    }
+    None
+}
+
+fn is_static(privilege: Plain, words: &str) -> bool
+    ensures { IsTrue result ↔ ((privilege < 30) × (words.now ≡ plain_name privilege)) }
+{
+    privilege.number() < 30 && privilege.name() == words
 }
 
 // What follows the quote before an account's user.
@@ -103,7 +123,7 @@ fn granted_privilege(rest: &str) -> Option<(Plain, &str)>
         IsSomeAnd result (λ parts. (parts.0 ≡ privilege) × (parts.1.now ≡ back)) }
 {
     let (front, back) = around(rest, '\'')?;
-    let privilege = Plain::by_name(before(front, " ON *.* TO ")?)?;
+    let privilege = static_privilege(before(front, " ON *.* TO ")?)?;
     Some((privilege, back))
 }
 

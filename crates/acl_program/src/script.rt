@@ -1,11 +1,13 @@
 //! Scripts, and how they are read.
-ghost use Rattle.std.specs.Prelude.{◌≡◌, ◌≢◌, ℕ, ◌+◌, ◌<◌, ◌≤◌, ◌^◌, ◌↔◌, [], ◌∷◌, ◌++◌, length, codes, IsNone, IsTrue, IfOk, IfSome, OnOk, position, slice_index};
+ghost use Rattle.std.specs.Prelude.{◌≡◌, ◌≢◌, ℕ, ◌+◌, ◌<◌, ◌≤◌, ◌^◌, ◌↔◌, [], ◌∷◌, ◌++◌, List, length, codes, IsNone, IsSomeAnd, IsTrue, IfErr, IfOk, IfSome, OnOk, position, slice_index};
 ghost use Rattle.std.specs.List.{All};
 ghost use Rattle.std.specs.Str.{bytes_eq};
+ghost use Rattle.acl_program.specs.Refusals.{IsRefused};
 ghost use Rattle.acl_program.specs.Script.{lines_in, line_text, IsScript};
-ghost use Rattle.acl_program.specs.Spelling.{is_session_name, IsCommand};
+ghost use Rattle.acl_program.specs.Spelling.{command_text, is_session_name, IsCommand};
+ghost use Rattle.acl_program.specs.declared.command.Command.{Command};
 ghost use Rattle.acl_program.specs.declared.script.ScriptRefusal.TheVariants.{NoMemory as NoMemoryForScript};
-ghost use Rattle.acl_program.specs.Adding.{Adds, Seats};
+ghost use Rattle.acl_program.specs.Adding.{refusal_of_line, Adds, IsNotAdded, IsNotSeated, Seats};
 
 use crate::command::Line;
 use crate::cut::{after, around};
@@ -77,6 +79,7 @@ pub fn read_script(alloc: Global, bytes: &[u8]) -> Result<Script, ScriptRefusal>
         All (λ line. line.session < length script.sessions.items) script.lines.items) }
     ensures lines { IfOk result (λ script. length script.lines.items ≤ 200000) }
     ensures sessions { IfOk result (λ script. length script.sessions.items ≤ 64) }
+    ensures err { IfErr result (IsRefused bytes.now) }
 {
     if bytes.len() > MOST_BYTES {
         return Err(ScriptRefusal::Limit {
@@ -152,6 +155,7 @@ impl Script {
         requires sessions { length self.old.sessions.items ≤ 64 }
         ensures ok { OnOk result (Adds text.now self.old.sessions.items self.new.sessions.items
             self.old.lines.items self.new.lines.items) }
+        ensures err { IfErr result (IsNotAdded text.now self.old.sessions.items self.old.lines.items) }
         ensures sessions { length self.new.sessions.items ≤ 64 }
     {
         let number = self.lines.len() as u32 + 1;
@@ -174,6 +178,7 @@ impl Script {
         requires name { IsTrue (is_session_name name.now) }
         requires sessions { length self.old.sessions.items ≤ 64 }
         ensures ok { IfOk result (Seats self.old.sessions.items self.new.sessions.items name.now) }
+        ensures err { IfErr result (IsNotSeated self.old.sessions.items name.now) }
         ensures sessions { length self.new.sessions.items ≤ 64 }
         ensures lines { self.new.lines ≡ self.old.lines }
     {
@@ -198,7 +203,9 @@ fn place_of(names: &[SessionName], name: &str) -> Option<usize>
     names.iter().position(|other| other.is(name))
 }
 
-fn refusal_at(line: u32, fault: LineFault) -> ScriptRefusal {
+fn refusal_at(line: u32, fault: LineFault) -> ScriptRefusal
+    ensures { result ≡ refusal_of_line line fault }
+{
     match fault {
         LineFault::Syntax => ScriptRefusal::BadLine {
             line,
@@ -212,6 +219,8 @@ fn refusal_at(line: u32, fault: LineFault) -> ScriptRefusal {
 fn split_line(text: &[u8]) -> Option<(&str, &str)>
     ensures found { IfSome result (λ parts. IsTrue (is_session_name parts.0.now) ×
         (text.now ≡ parts.0.now ++ (codes "> " ++ parts.1.now))) }
+    ensures only { (name : List ℕ) (command : Command) → IsTrue (is_session_name name) → IsCommand command →
+        text.now ≡ line_text name command → IsSomeAnd result (λ parts. parts.1.now ≡ command_text command) }
 {
     let text = str::from_utf8(text).ok()?;
     let (name, rest) = around(text, '>')?;

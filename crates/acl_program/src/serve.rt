@@ -1,10 +1,17 @@
 //! The program's one call: words and devices in, an end and what was written out.
-ghost use Rattle.std.specs.Prelude.{◌≡◌, ◌≢◌, ◌<◌, ◌^◌, ◌++◌, [], Some, length, IfErr, IfOk, IfSome, IsSomeAnd, OnOk};
+ghost use Rattle.std.specs.Prelude.{◌≡◌, ◌≢◌, ℕ, ◌<◌, ◌≤◌, ◌↔◌, ◌^◌, ◌++◌, false, true, [], Some, length, map, string_bytes, IfErr, IfOk, IfSome, IsSomeAnd};
 ghost use Rattle.std.specs.List.{All};
-ghost use Rattle.acl_program.specs.Causes.{status};
+ghost use Rattle.acl_ports.specs.Faults.{next_count};
+ghost use Rattle.acl_program.specs.Causes.{cause_so_far, status, text_of_cause};
+ghost use Rattle.acl_program.specs.Endings.{ComesExactly, HasReport, IsCausedBy, IsReadFor, IsTold};
+ghost use Rattle.acl_program.specs.Refusals.{IsBadScript, IsBeyond};
 ghost use Rattle.acl_program.specs.Rehearsal.{IsRehearsal, IsReport};
-ghost use Rattle.acl_program.specs.declared.cause.Cause.TheVariants.{Fine};
+ghost use Rattle.acl_program.specs.Streams.{IsPrefixWritten};
 ghost use Rattle.acl_program.specs.Texts.{text_of_report};
+ghost use Rattle.acl_program.specs.Words.{is_step as is_step_text};
+ghost use Rattle.acl_program.specs.declared.cause.Cause.TheVariants.{Fine, Usage, BadScript, ReadFault, WriteFault, Limit};
+ghost use Rattle.acl_program.specs.declared.script.ParseRefusal.{ParseRefusal};
+ghost use Rattle.acl_program.specs.declared.script.Which.{Which};
 
 use crate::cause::{Cause, cause_of_input, cause_of_script, status_of, tell};
 use crate::input::read_all;
@@ -31,7 +38,8 @@ pub struct Served<D> {
 
 /// Runs the program with the words after its name.
 ///
-/// Of an end other than status 0 nothing is claimed but that the disk is handed back as it was.
+/// The order is: the words, reading, the limits on bytes and on lines, then line by line the first without a spelling or
+/// the 65th session, whichever comes first, running, writing. Want of memory may come anywhere.
 pub fn serve<S: Source, K: Sink, E: Sink, D: Disk>(
     alloc: Global,
     words: &[String],
@@ -51,6 +59,29 @@ pub fn serve<S: Source, K: Sink, E: Sink, D: Disk>(
         K.written out.new ≡ Some (before ++ text_of_report report))) }
     ensures err { result.status ≡ 0 → err.new ≡ err.old }
 
+    // Status 2, 3 and 9.
+    ensures usage { (result.cause ≡ Usage) ↔ (is_step_text (map string_bytes words.now) ≡ false) }
+    ensures bad_script { IfSome (S.left script.old) (λ bytes. (line : ℕ) (refusal : ParseRefusal) →
+        ComesExactly result.cause (BadScript line refusal)
+        ((is_step_text (map string_bytes words.now) ≡ true) × IsBadScript bytes line refusal)) }
+    ensures limit { IfSome (S.left script.old) (λ bytes. (which : Which) (number : ℕ) →
+        ComesExactly result.cause (Limit which number)
+        ((is_step_text (map string_bytes words.now) ≡ true) × IsBeyond bytes which number)) }
+
+    // Status 4 and 5.
+    ensures read_fault { result.cause ≡ ReadFault → next_count (S.faults script.old) ≤ S.faults script.new }
+    ensures write_fault { result.cause ≡ WriteFault → next_count (K.faults out.old) ≤ K.faults out.new }
+    ensures front_written { result.cause ≡ WriteFault → IfSome (K.written out.old) (λ before.
+        IsSomeAnd result.report (λ report. IsPrefixWritten before (text_of_report report) (K.written out.new))) }
+
+    // With every status.
+    ensures taken { IfSome (S.left script.old) (λ bytes. IsReadFor result.cause bytes (S.left script.new)) }
+    ensures kept_report { HasReport result.cause result.report }
+    ensures rehearsed { IfSome result.report (λ report. IfSome (S.left script.old) (λ bytes.
+        (S.left script.new ≡ Some []) × IsRehearsal bytes report)) }
+    ensures unwritten { result.cause ≢ Fine → result.cause ≢ WriteFault → out.new ≡ out.old }
+    ensures told { IfSome (E.written err.old) (λ before. IsTold before (text_of_cause result.cause)
+        (E.faults err.old) (E.faults err.new) (E.written err.new)) }
     ensures disk { result.disk ≡ disk }
 {
     let report = match rehearse(alloc, words, script) {
@@ -73,9 +104,11 @@ pub fn serve<S: Source, K: Sink, E: Sink, D: Disk>(
 
 // The end with a line on the error stream. A fault there changes nothing else.
 fn ended<E: Sink, D: Disk>(cause: Cause, report: Option<Report>, err: &mut E, disk: D) -> Served<D>
-    requires { cause ≢ Fine }
-    ensures status { result.status ≡ status result.cause }
-    ensures not_fine { result.status ≢ 0 }
+    ensures status { result.status ≡ status cause }
+    ensures cause { result.cause ≡ cause }
+    ensures report { result.report ≡ report }
+    ensures told { IfSome (E.written err.old) (λ before. IsTold before (text_of_cause cause)
+        (E.faults err.old) (E.faults err.new) (E.written err.new)) }
     ensures disk { result.disk ≡ disk }
 {
     let _ = tell(err, &cause);
@@ -89,11 +122,15 @@ fn ended<E: Sink, D: Disk>(cause: Cause, report: Option<Report>, err: &mut E, di
 
 // Reads the script and runs its lines.
 fn rehearse<S: Source>(alloc: Global, words: &[String], source: &mut S) -> Result<Report, Cause>
-    ensures read { OnOk result
-        (IfSome (S.left source.old) (λ bytes. S.left source.new ≡ Some [])) }
+    ensures usage { (cause_so_far result ≡ Usage) ↔ (is_step_text (map string_bytes words.now) ≡ false) }
+    ensures cause { IfSome (S.left source.old) (λ bytes.
+        IsCausedBy (map string_bytes words.now) bytes (cause_so_far result)) }
+    ensures fault { cause_so_far result ≡ ReadFault → next_count (S.faults source.old) ≤ S.faults source.new }
+    ensures read { IfSome (S.left source.old) (λ bytes.
+        IsReadFor (cause_so_far result) bytes (S.left source.new)) }
     ensures report { IfOk result (λ report.
         IfSome (S.left source.old) (λ bytes. IsRehearsal bytes report)) }
-    ensures err { IfErr result (λ cause. cause ≢ Fine) }
+    ensures err { IfErr result (λ cause. (cause ≢ Fine) × (cause ≢ WriteFault)) }
 {
     if !is_step(words) {
         return Err(Cause::Usage);

@@ -13,15 +13,28 @@ struct Ended {
     disk: MemoryDisk,
 }
 
-fn run(alloc: Global, words: &str, script: &str) -> Result<Ended, Fail> {
+// The numbers of the calls that fail, counted from 0.
+struct Failing {
+    reads: &'static [u64],
+    writes: &'static [u64],
+    tells: &'static [u64],
+}
+
+const NO_FAULT: Failing = Failing {
+    reads: &[],
+    writes: &[],
+    tells: &[],
+};
+
+fn run(alloc: Global, words: &str, script: &[u8], failing: &Failing) -> Result<Ended, Fail> {
     let mut spoken = Vec::new(alloc);
     for word in words.split_whitespace() {
         spoken.push(String::from_str(alloc, word)?)?;
     }
-    let bytes = script.as_bytes().to_vec(alloc)?;
-    let mut source = MemorySource::new(bytes, 7, Vec::new(alloc));
-    let mut out = MemorySink::new(alloc, 5, 4096, Vec::new(alloc))?;
-    let mut err = MemorySink::new(alloc, 5, 4096, Vec::new(alloc))?;
+    let bytes = script.to_vec(alloc)?;
+    let mut source = MemorySource::new(bytes, 4096, failing.reads.to_vec(alloc)?);
+    let mut out = MemorySink::new(alloc, 3, 4096, failing.writes.to_vec(alloc)?)?;
+    let mut err = MemorySink::new(alloc, 5, 4096, failing.tells.to_vec(alloc)?)?;
     let disk = MemoryDisk::new(alloc, b"as before".to_vec(alloc)?, 9, 0, Vec::new(alloc))?;
     let served = serve(alloc, &spoken, &mut source, &mut out, &mut err, disk);
     Ok(Ended {
@@ -135,7 +148,13 @@ history 2
 #[test]
 fn each_line_has_its_answer(rt: HostRuntime) -> Result<(), Fail> {
     for case in &REHEARSED {
-        let ended = run(rt.alloc(), "step first.acl first.journal", case.script)?;
+        let script = case.script.as_bytes();
+        let ended = run(
+            rt.alloc(),
+            "step first.acl first.journal",
+            script,
+            &NO_FAULT,
+        )?;
         assert_eq!(rt; ended.out.written(), case.printed.as_bytes());
         assert_eq!(rt; ended.status, 0);
         assert_eq!(rt; ended.err.written(), b"".as_slice());
@@ -144,54 +163,200 @@ fn each_line_has_its_answer(rt: HostRuntime) -> Result<(), Fail> {
     Ok(())
 }
 
-// Words and a script that are refused, with the status and the line on the error stream.
+// Words, a script and faults with which the program ends otherwise: the status, and what it writes on the output and
+// on the error stream.
 struct Refused {
     words: &'static str,
     script: &'static str,
+    failing: Failing,
     status: u8,
+    out: &'static str,
     told: &'static str,
 }
 
-static REFUSED: [Refused; 5] = [
+static REFUSED: [Refused; 9] = [
     Refused {
-        words: "run a b",
+        words: "run a",
         script: "",
+        failing: Failing {
+            reads: &[0],
+            writes: &[],
+            tells: &[],
+        },
         status: 2,
+        out: "",
         told: "usage: acl step SCRIPT JOURNAL\n",
     },
     Refused {
         words: "step a -b",
         script: "",
+        failing: NO_FAULT,
         status: 2,
+        out: "",
         told: "usage: acl step SCRIPT JOURNAL\n",
     },
     Refused {
         words: "step a b",
         script: "s1> DROP USER u1",
+        failing: NO_FAULT,
         status: 3,
+        out: "",
         told: "line 1: syntax at 0\n",
     },
     Refused {
         words: "step a b",
         script: "a> CONNECT root FROM LOCAL\n\n",
+        failing: NO_FAULT,
         status: 3,
+        out: "",
         told: "line 2: syntax at 0\n",
     },
     Refused {
         words: "step a b",
         script: "a> GRANT select ON *.* TO 'u1'@'%'\r\n",
+        failing: NO_FAULT,
         status: 3,
+        out: "",
         told: "line 1: syntax at 0\n",
+    },
+    // The second read fails.
+    Refused {
+        words: "step a b",
+        script: "a> CONNECT root FROM LOCAL\n",
+        failing: Failing {
+            reads: &[1],
+            writes: &[],
+            tells: &[],
+        },
+        status: 4,
+        out: "",
+        told: "read fault\n",
+    },
+    // The second put fails.
+    Refused {
+        words: "step a b",
+        script: "",
+        failing: Failing {
+            reads: &[],
+            writes: &[1],
+            tells: &[],
+        },
+        status: 5,
+        out: "his",
+        told: "write fault\n",
+    },
+    // A fault of the error stream changes no status.
+    Refused {
+        words: "step a b",
+        script: "s1> DROP USER u1",
+        failing: Failing {
+            reads: &[],
+            writes: &[],
+            tells: &[3],
+        },
+        status: 3,
+        out: "",
+        told: "line 1: syn",
+    },
+    // A 65th session.
+    Refused {
+        words: "step a b",
+        script: "s1> CHECK SELECT ON *.*
+s2> CHECK SELECT ON *.*
+s3> CHECK SELECT ON *.*
+s4> CHECK SELECT ON *.*
+s5> CHECK SELECT ON *.*
+s6> CHECK SELECT ON *.*
+s7> CHECK SELECT ON *.*
+s8> CHECK SELECT ON *.*
+s9> CHECK SELECT ON *.*
+s10> CHECK SELECT ON *.*
+s11> CHECK SELECT ON *.*
+s12> CHECK SELECT ON *.*
+s13> CHECK SELECT ON *.*
+s14> CHECK SELECT ON *.*
+s15> CHECK SELECT ON *.*
+s16> CHECK SELECT ON *.*
+s17> CHECK SELECT ON *.*
+s18> CHECK SELECT ON *.*
+s19> CHECK SELECT ON *.*
+s20> CHECK SELECT ON *.*
+s21> CHECK SELECT ON *.*
+s22> CHECK SELECT ON *.*
+s23> CHECK SELECT ON *.*
+s24> CHECK SELECT ON *.*
+s25> CHECK SELECT ON *.*
+s26> CHECK SELECT ON *.*
+s27> CHECK SELECT ON *.*
+s28> CHECK SELECT ON *.*
+s29> CHECK SELECT ON *.*
+s30> CHECK SELECT ON *.*
+s31> CHECK SELECT ON *.*
+s32> CHECK SELECT ON *.*
+s33> CHECK SELECT ON *.*
+s34> CHECK SELECT ON *.*
+s35> CHECK SELECT ON *.*
+s36> CHECK SELECT ON *.*
+s37> CHECK SELECT ON *.*
+s38> CHECK SELECT ON *.*
+s39> CHECK SELECT ON *.*
+s40> CHECK SELECT ON *.*
+s41> CHECK SELECT ON *.*
+s42> CHECK SELECT ON *.*
+s43> CHECK SELECT ON *.*
+s44> CHECK SELECT ON *.*
+s45> CHECK SELECT ON *.*
+s46> CHECK SELECT ON *.*
+s47> CHECK SELECT ON *.*
+s48> CHECK SELECT ON *.*
+s49> CHECK SELECT ON *.*
+s50> CHECK SELECT ON *.*
+s51> CHECK SELECT ON *.*
+s52> CHECK SELECT ON *.*
+s53> CHECK SELECT ON *.*
+s54> CHECK SELECT ON *.*
+s55> CHECK SELECT ON *.*
+s56> CHECK SELECT ON *.*
+s57> CHECK SELECT ON *.*
+s58> CHECK SELECT ON *.*
+s59> CHECK SELECT ON *.*
+s60> CHECK SELECT ON *.*
+s61> CHECK SELECT ON *.*
+s62> CHECK SELECT ON *.*
+s63> CHECK SELECT ON *.*
+s64> CHECK SELECT ON *.*
+s65> CHECK SELECT ON *.*
+",
+        failing: NO_FAULT,
+        status: 9,
+        out: "",
+        told: "limit sessions 64\n",
     },
 ];
 
 #[test]
-fn what_is_no_script_is_refused(rt: HostRuntime) -> Result<(), Fail> {
+fn what_is_refused_or_fails_ends_otherwise(rt: HostRuntime) -> Result<(), Fail> {
     for case in &REFUSED {
-        let ended = run(rt.alloc(), case.words, case.script)?;
+        let script = case.script.as_bytes();
+        let ended = run(rt.alloc(), case.words, script, &case.failing)?;
         assert_eq!(rt; ended.err.written(), case.told.as_bytes());
         assert_eq!(rt; ended.status, case.status);
-        assert_eq!(rt; ended.out.written(), b"".as_slice());
+        assert_eq!(rt; ended.out.written(), case.out.as_bytes());
+        assert_eq!(rt; ended.disk.bytes(), b"as before".as_slice());
+    }
+    Ok(())
+}
+
+#[test]
+fn lines_are_counted_before_they_are_read(rt: HostRuntime) -> Result<(), Fail> {
+    for (length, status, told) in [
+        (200_000, 3, "line 1: syntax at 0\n"),
+        (200_001, 9, "limit lines 200000\n"),
+    ] {
+        let script = vec![in rt.alloc(); b'\n'; length]?;
+        let ended = run(rt.alloc(), "step a b", &script, &NO_FAULT)?;
+        assert_eq!(rt; ended.err.written(), told.as_bytes());
+        assert_eq!(rt; ended.status, status);
     }
     Ok(())
 }

@@ -1,0 +1,52 @@
+-- What an end of the program says of its words, its script and its devices.
+use Rattle.std.specs.Prelude.{◌≡◌, ◌⊎◌, ℕ, ◌≤◌, false, true, List, [], ◌++◌, Option, None, Some, IsSome}
+use Rattle.acl_ports.specs.Faults.{next_count}
+use Rattle.acl_program.specs.Refusals.{IsBadScript, IsBeyond, IsTaken}
+use Rattle.acl_program.specs.Streams.{IsCutBeyond, IsEndLeft, IsPrefixWritten}
+use Rattle.acl_program.specs.Words.{is_step}
+use Rattle.acl_program.specs.declared.cause.Cause.{Cause}
+use Rattle.acl_program.specs.declared.cause.Cause.TheVariants.{Fine, Usage, BadScript, ReadFault, WriteFault, NoMemory, Limit}
+use Rattle.acl_program.specs.declared.report.Report.{Report}
+use Rattle.acl_program.specs.declared.script.Which.TheVariants.{Bytes, Lines, Sessions}
+
+-- a cause comes exactly where this holds, unless a read failed or memory ran out before
+pub record ComesExactly (cause wanted : Cause) (Holds : Type 0) : Type 0 where
+  pub only : cause ≡ wanted → Holds
+  pub always : Holds → (cause ≡ wanted) ⊎ ((cause ≡ ReadFault) ⊎ (cause ≡ NoMemory))
+
+-- what the program has read of these bytes when it ends so, by what is left of them
+abbrev pub IsReadFor : Cause → List ℕ → Option (List ℕ) → Type 0
+IsReadFor Fine bytes left = left ≡ Some []
+IsReadFor Usage bytes left = left ≡ Some bytes
+IsReadFor (BadScript line refusal) bytes left = left ≡ Some []
+IsReadFor ReadFault bytes left = IsEndLeft bytes left
+IsReadFor WriteFault bytes left = left ≡ Some []
+IsReadFor NoMemory bytes left = IsEndLeft bytes left
+IsReadFor (Limit Bytes number) bytes left = IsCutBeyond 16777216 bytes left
+IsReadFor (Limit Lines number) bytes left = left ≡ Some []
+IsReadFor (Limit Sessions number) bytes left = left ≡ Some []
+
+-- which end keeps the report: where the lines were run to their end, and nowhere else; want of memory may come before or behind
+abbrev pub HasReport : Cause → Option Report → Type 0
+HasReport Fine report = IsSome report
+HasReport Usage report = report ≡ None
+HasReport (BadScript line refusal) report = report ≡ None
+HasReport ReadFault report = report ≡ None
+HasReport WriteFault report = IsSome report
+HasReport NoMemory report = Unit {0}
+HasReport (Limit which number) report = report ≡ None
+
+-- all of the text stands behind what was written before, or a front of it where the count of faults rose
+abbrev pub IsTold : List ℕ → List ℕ → ℕ → ℕ → Option (List ℕ) → Type 0
+IsTold before text old_faults new_faults written =
+    (written ≡ Some (before ++ text)) ⊎ ((next_count old_faults ≤ new_faults) × IsPrefixWritten before text written)
+
+-- what the words and the bytes have to do with an end
+abbrev pub IsCausedBy : List (List ℕ) → List ℕ → Cause → Type 0
+IsCausedBy words bytes Fine = (is_step words ≡ true) × IsTaken bytes
+IsCausedBy words bytes Usage = is_step words ≡ false
+IsCausedBy words bytes (BadScript line refusal) = (is_step words ≡ true) × IsBadScript bytes line refusal
+IsCausedBy words bytes ReadFault = is_step words ≡ true
+IsCausedBy words bytes WriteFault = (is_step words ≡ true) × IsTaken bytes
+IsCausedBy words bytes NoMemory = is_step words ≡ true
+IsCausedBy words bytes (Limit which number) = (is_step words ≡ true) × IsBeyond bytes which number
