@@ -1,5 +1,6 @@
 -- What the calls of a disk do to the bytes that a read gives.
-use Rattle.std.specs.Prelude.{◌≡◌, ℕ, ◌+◌, ◌≤◌, max, List, ◌++◌, length, take, drop, Option, Some, IfSome}
+use Rattle.std.specs.Prelude.{◌≡◌, ℕ, ◌+◌, ◌<◌, ◌≤◌, max, List, ◌++◌, length, take, drop, get_or, Option, Some, IfSome}
+use Rattle.acl_ports.specs.Crash.{IsClean}
 
 -- what is known stays as it was
 abbrev pub Stays : Option (List ℕ) → Option (List ℕ) → Type 0
@@ -20,3 +21,8 @@ pub record HasChangedWithin (at count : ℕ) (before after : List ℕ) : Type 0 
   pub rest : drop (at + count) after ≡ drop (at + count) before
   pub no_shorter : length before ≤ length after
   pub no_longer : length after ≤ max (length before) (at + count)
+
+-- The content differs within these ranges at most, and is no shorter.
+pub record HasChangedIn (dirty : List (ℕ × ℕ)) (before after : List ℕ) : Type 0 where
+  pub no_shorter : length before ≤ length after
+  pub rest : (place : ℕ) → place < length after → IsClean dirty place → (place < length before) × (get_or after place 0 ≡ get_or before place 0)

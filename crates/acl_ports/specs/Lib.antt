@@ -1,7 +1,10 @@
 pub mod Adapter
 pub mod Calls
+pub mod Crash
 pub mod Disk
+pub mod DiskLog
 pub mod Faults
+pub mod FileDisk
 pub mod MemoryDisk
 pub mod MemorySink
 pub mod MemorySource

@@ -4,8 +4,11 @@
 
 mod calls;
 mod disk;
+mod disk_log;
 mod faults;
 mod file_disk;
+mod keep;
+pub mod laws;
 mod memory_disk;
 mod memory_sink;
 mod memory_source;
@@ -16,6 +19,7 @@ mod std_source;
 
 pub use disk::Disk;
 pub use file_disk::FileDisk;
+pub use keep::Keep;
 pub use memory_disk::MemoryDisk;
 pub use memory_sink::MemorySink;
 pub use memory_source::MemorySource;

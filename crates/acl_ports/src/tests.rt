@@ -1,7 +1,10 @@
 ghost use Rattle.std.specs.Prelude.{◌≤◌, IfOk};
 
 use super::*;
-use std::fs::File;
+use crate::faults::or_fault;
+use crate::laws::write_and_sync;
+use std::alloc::Global;
+use std::fs::{File, OpenOptions};
 use std::io::{Read, Write};
 use std::test::Fail;
 use std::{fs, io};
@@ -138,6 +141,109 @@ fn a_disk_is_written_within_its_room(rt: HostRuntime) -> Result<(), Fail> {
     Ok(())
 }
 
+// A call of a disk that writes or syncs.
+#[derive(Clone, Copy)]
+enum Step {
+    Write(u64, &'static [u8]),
+    Sync,
+}
+
+// What the calls answer, on a disk of these bytes that is stopped after them, and what is then left.
+fn stopped_after(
+    alloc: Global,
+    failing: &[u64],
+    steps: &[Step],
+    keep: Keep,
+) -> Result<(Vec<bool>, Vec<u8>), Fail> {
+    let failing = failing.to_vec(alloc)?;
+    let mut disk = MemoryDisk::new(alloc, b"abc".to_vec(alloc)?, 6, 4, failing)?;
+    let mut answers = Vec::new(alloc);
+    for step in steps {
+        let answer = match *step {
+            Step::Write(at, bytes) if at <= disk.bytes().len() as u64 => disk.write_at(at, bytes),
+            Step::Write(..) => Err(Failed),
+            Step::Sync => disk.sync(),
+        };
+        answers.push(answer.is_ok())?;
+    }
+    Ok((answers, disk.stopped(keep)))
+}
+
+#[test]
+fn a_stop_leaves_what_was_synced_or_what_was_written(rt: HostRuntime) -> Result<(), Fail> {
+    use Step::{Sync, Write};
+    let alloc = rt.alloc();
+    // The numbers of the calls that fail, the calls, which of them are done, and the bytes that are synced and written.
+    let table: [(&[u64], &[Step], &[bool], &[u8], &[u8]); 8] = [
+        (&[], &[], &[], b"abc", b"abc"),
+        // A write that a stop tears.
+        (&[], &[Write(2, b"xy")], &[true], b"abc", b"abxy"),
+        (
+            &[],
+            &[Write(0, b"xy"), Write(1, b"zzz"), Write(4, b"e")],
+            &[true, true, true],
+            b"abc",
+            b"xzzze",
+        ),
+        (
+            &[],
+            &[Write(0, b"X"), Sync, Write(1, b"YZ")],
+            &[true, true, true],
+            b"Xbc",
+            b"XYZ",
+        ),
+        // A sync that fails, and one that succeeds after it.
+        (
+            &[1],
+            &[Write(1, b"Z"), Sync],
+            &[true, false],
+            b"abc",
+            b"aZc",
+        ),
+        (
+            &[1],
+            &[Write(1, b"Z"), Sync, Sync],
+            &[true, false, true],
+            b"aZc",
+            b"aZc",
+        ),
+        // A write that has no room for all its bytes.
+        (
+            &[],
+            &[Write(3, b"de"), Write(4, b"EFG"), Sync],
+            &[true, false, true],
+            b"abcde",
+            b"abcde",
+        ),
+        // A call that is not recorded.
+        (
+            &[0],
+            &[Write(0, b"x"), Write(0, b"y"), Sync, Write(1, b"z"), Sync],
+            &[false, true, true, true, false],
+            b"ybc",
+            b"yzc",
+        ),
+    ];
+    for (failing, steps, done, synced, written) in table {
+        let (answers, left) = stopped_after(alloc, failing, steps, Keep::Synced)?;
+        assert_eq!(rt; answers.as_slice(), done);
+        assert_eq!(rt; left.as_slice(), synced);
+        let (_, left) = stopped_after(alloc, failing, steps, Keep::Written)?;
+        assert_eq!(rt; left.as_slice(), written);
+    }
+    Ok(())
+}
+
+#[test]
+fn a_count_of_faults_stays_at_its_end(rt: HostRuntime) {
+    for (before, after) in [(0, 1), (u64::MAX - 1, u64::MAX), (u64::MAX, u64::MAX)] {
+        let mut faults = before;
+        assert_eq!(rt; or_fault::<u8>(None, &mut faults), Err(Failed));
+        assert_eq!(rt; or_fault(Some(7), &mut faults), Ok(7));
+        assert_eq!(rt; faults, after);
+    }
+}
+
 #[test]
 fn a_file_is_written_and_read_again(rt: HostRuntime) -> Result<(), Fail> {
     let name = "acl_ports_file";
@@ -155,10 +261,15 @@ fn a_file_is_written_and_read_again(rt: HostRuntime) -> Result<(), Fail> {
 #[test]
 fn a_disk_over_a_file_keeps_its_bytes(rt: HostRuntime) -> Result<(), Fail> {
     let name = "acl_ports_disk";
-    let mut disk = FileDisk::new(Some(File::create_new(&rt, name)?));
-    disk.write_at(0, b"abcd")?;
+    let mut options = OpenOptions::new();
+    options.read(true).write(true).create_new(true);
+    let mut disk = FileDisk::new(Some(options.open(&rt, name)?));
+    write_and_sync(&mut disk, 0, b"abcd")?;
     disk.write_at(3, b"xyz")?;
     assert_eq!(rt; length_after_sync(&mut disk)?, 6);
+    let mut into = [0; 3];
+    assert_eq!(rt; disk.read(4, &mut into)?, 2);
+    assert_eq!(rt; into, *b"yz\0");
     drop(disk);
     let mut disk = FileDisk::new(Some(File::open(&rt, name)?));
     let mut into = [0; 5];

@@ -1,0 +1,4 @@
+pub mod Crash
+pub mod Moments
+pub mod Undo
+pub mod WriteAndSync
