@@ -1,0 +1,10 @@
+pub mod Answered
+pub mod Classes
+pub mod Cuts
+pub mod Fronts
+pub mod Prints
+pub mod Quotes
+pub mod Runs
+pub mod Spans
+pub mod Unique
+pub mod Values

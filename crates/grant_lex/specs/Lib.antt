@@ -1,0 +1,6 @@
+pub mod Class
+pub mod Inside
+pub mod Next
+pub mod Printed
+pub mod Token
+pub mod Value

@@ -1,0 +1,21 @@
+//! Tokens of account statements: words, strings, names in backquotes and marks, each a slice of its text.
+//!
+//! MySQL 8.0 Reference Manual, "String Literals", "Schema Object Names" and "Specifying Account Names".
+#![tactic(auto)]
+
+mod class;
+mod cut;
+mod inside;
+mod laws;
+mod refusal;
+mod sorts;
+mod value;
+
+pub use cut::tokens;
+pub use laws::{printed_tokens_are_read, texts_have_one_reading, values_are_meant};
+pub use refusal::LexRefusal;
+pub use sorts::{Kind, Token};
+pub use value::value_of;
+
+#[cfg(test)]
+mod tests;
