@@ -1,0 +1,10 @@
+pub mod Address
+pub mod Admitted
+pub mod Choice
+pub mod Fits
+pub mod Form
+pub mod Like
+pub mod Order
+pub mod Permitted
+pub mod Refused
+pub mod Step
