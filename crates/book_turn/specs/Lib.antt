@@ -1,0 +1,7 @@
+pub mod Lists
+pub mod Views
+pub mod Rule
+pub mod Steps
+pub mod Sitting
+pub mod Callers
+pub mod Gathering
