@@ -1,0 +1,7 @@
+pub mod Columns
+pub mod Entries
+pub mod Limits
+pub mod Privileges
+pub mod Requests
+pub mod Statements
+pub mod Targets
