@@ -1,0 +1,14 @@
+pub mod Acceptance
+pub mod Accounts
+pub mod Counts
+pub mod Effects
+pub mod Firsts
+pub mod Flats
+pub mod Refusals
+pub mod Renames
+pub mod Rights
+pub mod Roles
+pub mod Rows
+pub mod State
+pub mod Verdict
+pub mod Words

@@ -1,0 +1,5 @@
+pub mod Denials
+pub mod FirstItems
+pub mod Histories
+pub mod Once
+pub mod OneRefusal

@@ -1,0 +1,4 @@
+pub mod ExampleGrants
+pub mod ExampleNames
+pub mod ExampleRefusals
+pub mod ExampleRoles
