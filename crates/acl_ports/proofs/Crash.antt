@@ -3,8 +3,8 @@ use Rattle.std.proofs.Common.{◌≡◌, ◌⊎◌, inl, inr, ⊎_elim, ℕ, ◌
 use Rattle.std.proofs.lemmas.List.{ext_get_or, get_or-drop, get_or-take, get_or_append_left, get_or-append_right, length-take}
 use Rattle.std.proofs.lemmas.Bool.{cases_lt}
 use Rattle.std.specs.List.{All}
-use Rattle.acl_ports.specs.Disk.{content_after_write}
-use Rattle.acl_ports.specs.Crash.{Elapses, IsImage, IsImageSince, IsTorn, LeavesOnly, Pending, all_synced}
+use Rattle.acl_ports.specs.Disk.{HasChangedIn, content_after_write}
+use Rattle.acl_ports.specs.Crash.{Elapses, IsClean, IsImage, IsImageSince, IsTorn, LeavesOnly, Pending, all_synced}
 
 module _ {D : Type 0} (moment : D → ℕ) (pending : D → ℕ → Option Pending) where
   -- before the first call
@@ -33,6 +33,22 @@ module _ {D : Type 0} (moment : D → ℕ) (pending : D → ℕ → Option Pendi
       at_moment : (image : List ℕ) (t : ℕ) → moment old ≤ t → t ≤ moment new → IsImage (pending new t) image → (t ≤ moment mid) ⊎ (t ≡ moment new) → P image
       at_moment image t from to left (inl before) = so_far.each image (record { moment = t; from = from; to = before; left = subst (λ (p : Option Pending). IsImage p image) (time.kept t before) left })
       at_moment image t from to left (inr now) = here image (subst (λ (m : ℕ). IsImage (pending new m) image) now left)
+
+  -- two runs, one after the other
+  pub joined : (old mid new : D) (P : List ℕ → Type 0) → LeavesOnly moment pending old mid P → LeavesOnly moment pending mid new P → LeavesOnly moment pending old new P
+  joined old mid new P first second = record {
+    later = omega (arith, first.later, second.later);
+    kept = λ earlier before. second.kept earlier (omega (arith, before, first.later)) ∙ first.kept earlier before;
+    each = λ image since. at_moment image since.moment since.from since.to since.left (cases_lt since.moment (moment mid));
+  }
+    where
+      at_moment : (image : List ℕ) (t : ℕ) → moment old ≤ t → t ≤ moment new → IsImage (pending new t) image → (t < moment mid) ⊎ (moment mid ≤ t) → P image
+      at_moment image t from to left (inl before) =
+          first.each image (record { moment = t; from = from; to = omega (arith, before); left = subst (λ (p : Option Pending). IsImage p image) (second.kept t (omega (arith, before))) left })
+      at_moment image t from to left (inr after) = second.each image (record { moment = t; from = after; to = to; left = left })
+
+  pub weaker : (old new : D) (P Q : List ℕ → Type 0) → LeavesOnly moment pending old new P → ((image : List ℕ) → P image → Q image) → LeavesOnly moment pending old new Q
+  weaker old new P Q so_far follows = record { later = so_far.later; kept = so_far.kept; each = λ image since. follows image (so_far.each image since) }
 
 -- nothing is in doubt: a crash leaves what is synced
 pub only_synced : (synced image : List ℕ) → IsTorn [] synced image → image ≡ synced
@@ -66,6 +82,35 @@ sides_stay dirty synced image from to between order within torn = (
     same =
         let longer : length image ≤ length synced = torn.no_longer (λ k d is. omega (arith, within, (between k d is).1)) in
         omega (arith, torn.no_shorter, longer)
+
+-- what a sync that fails leaves of the content below each range that is in doubt
+pub front_unchanged : (dirty : List (ℕ × ℕ)) (before after : List ℕ) (count : ℕ) → All (λ range. count ≤ range.0) dirty → count ≤ length before → HasChangedIn dirty before after → take count after ≡ take count before
+front_unchanged dirty before after count above within changed =
+    ext_get_or 0 (take count after) (take count before) (omega (arith, length-take count after, length-take count before, changed.no_shorter, within)) (λ place below.
+      let first : place < count = omega (arith, length-take count after, below) in
+      get_or-take count after place 0 first
+      ∙ (changed.rest place (omega (arith, first, within, changed.no_shorter)) (λ k d is. inl (omega (arith, first, above k d is)))).1
+      ∙ sym (get_or-take count before place 0 first))
+
+-- and at both sides of all that is in doubt, where that lies below the end
+pub sides_unchanged : (dirty : List (ℕ × ℕ)) (before after : List ℕ) (from to : ℕ) → All (λ range. (from ≤ range.0) × (range.0 + range.1 ≤ to)) dirty → from ≤ to → to ≤ length before → HasChangedIn dirty before after
+    → (take from after ≡ take from before) × (drop to after ≡ drop to before)
+sides_unchanged dirty before after from to between order within changed =
+    (front_unchanged dirty before after from (λ k d is. (between k d is).0) (omega (arith, order, within)) changed,
+      ext_get_or 0 (drop to after) (drop to before) (omega (arith, length-drop to after, length-drop to before, same)) (λ place below.
+        let inside : to + place < length after = omega (arith, length-drop to after, below) in
+        get_or-drop to after place 0
+        ∙ (changed.rest (to + place) inside (clean (to + place) (omega arith))).1
+        ∙ sym (get_or-drop to before place 0)))
+  where
+    clean : (place : ℕ) → to ≤ place → IsClean dirty place
+    clean place behind = λ k d is. inr (omega (arith, behind, (between k d is).1))
+
+    same : length after ≡ length before
+    same = ⊎_elim
+      (λ longer. absurd (omega (arith, (changed.rest (length before) longer (clean (length before) within)).0)))
+      (λ shorter. omega (arith, shorter, changed.no_shorter))
+      (cases_lt (length before) (length after))
 
 -- what a write gives is one of the images that a crash may leave before the next sync
 pub written_is_torn : (held bytes : List ℕ) (at : ℕ) → at ≤ length held → IsTorn ((at, length bytes) ∷ []) held (content_after_write held at bytes)
