@@ -3,6 +3,7 @@ ghost use Rattle.std.specs.Prelude.{◌≡◌, ◌≤◌, [], ◌∷◌, List, �
 ghost use Rattle.std.specs.Option.{ForSome};
 ghost use Rattle.acl_ports.specs.Crash.{IsImageSince, IsTorn, LeavesOnly, all_synced};
 ghost use Rattle.acl_ports.specs.Disk.{content_after_write};
+ghost use Rattle.acl_ports.specs.Faults.{HasCause};
 
 use crate::{Disk, Failed};
 
@@ -21,6 +22,7 @@ pub fn write_and_sync<D: Disk>(disk: &mut D, at: u64, bytes: &[u8]) -> Result<()
     ensures durable { OnOk result (IfSome (D.content disk.old) (λ held. (image : List ℕ)
         → IsImageSince (D.pending disk.new) (D.moment disk.new) (D.moment disk.new) image
         → image ≡ content_after_write held at bytes.now)) }
+    ensures cause { HasCause (D.faults disk.old) (D.faults disk.new) result }
 {
     disk.write_at(at, bytes)?;
     disk.sync()
