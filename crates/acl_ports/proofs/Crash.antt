@@ -87,30 +87,31 @@ sides_stay dirty synced image from to between order within torn = (
 pub front_unchanged : (dirty : List (ℕ × ℕ)) (before after : List ℕ) (count : ℕ) → All (λ range. count ≤ range.0) dirty → count ≤ length before → HasChangedIn dirty before after → take count after ≡ take count before
 front_unchanged dirty before after count above within changed =
     ext_get_or 0 (take count after) (take count before) (omega (arith, length-take count after, length-take count before, changed.no_shorter, within)) (λ place below.
-      let first : place < count = omega (arith, length-take count after, below) in
-      get_or-take count after place 0 first
-      ∙ (changed.rest place (omega (arith, first, within, changed.no_shorter)) (λ k d is. inl (omega (arith, first, above k d is)))).1
-      ∙ sym (get_or-take count before place 0 first))
+    let first : place < count = omega (arith, length-take count after, below) in
+    get_or-take count after place 0 first
+    ∙ (changed.rest place (omega (arith, first, within, changed.no_shorter)) (λ k d is. inl (omega (arith, first, above k d is)))).1
+    ∙ sym (get_or-take count before place 0 first))
 
 -- and at both sides of all that is in doubt, where that lies below the end
 pub sides_unchanged : (dirty : List (ℕ × ℕ)) (before after : List ℕ) (from to : ℕ) → All (λ range. (from ≤ range.0) × (range.0 + range.1 ≤ to)) dirty → from ≤ to → to ≤ length before → HasChangedIn dirty before after
     → (take from after ≡ take from before) × (drop to after ≡ drop to before)
-sides_unchanged dirty before after from to between order within changed =
-    (front_unchanged dirty before after from (λ k d is. (between k d is).0) (omega (arith, order, within)) changed,
-      ext_get_or 0 (drop to after) (drop to before) (omega (arith, length-drop to after, length-drop to before, same)) (λ place below.
-        let inside : to + place < length after = omega (arith, length-drop to after, below) in
-        get_or-drop to after place 0
-        ∙ (changed.rest (to + place) inside (clean (to + place) (omega arith))).1
-        ∙ sym (get_or-drop to before place 0)))
+sides_unchanged dirty before after from to between order within changed = (
+  front_unchanged dirty before after from (λ k d is. (between k d is).0) (omega (arith, order, within)) changed,
+  ext_get_or 0 (drop to after) (drop to before) (omega (arith, length-drop to after, length-drop to before, same)) (λ place below.
+      let inside : to + place < length after = omega (arith, length-drop to after, below) in
+      get_or-drop to after place 0
+      ∙ (changed.rest (to + place) inside (clean (to + place) (omega arith))).1
+      ∙ sym (get_or-drop to before place 0)),
+)
   where
     clean : (place : ℕ) → to ≤ place → IsClean dirty place
     clean place behind = λ k d is. inr (omega (arith, behind, (between k d is).1))
 
     same : length after ≡ length before
     same = ⊎_elim
-      (λ longer. absurd (omega (arith, (changed.rest (length before) longer (clean (length before) within)).0)))
-      (λ shorter. omega (arith, shorter, changed.no_shorter))
-      (cases_lt (length before) (length after))
+        (λ longer. absurd (omega (arith, (changed.rest (length before) longer (clean (length before) within)).0)))
+        (λ shorter. omega (arith, shorter, changed.no_shorter))
+        (cases_lt (length before) (length after))
 
 -- what a write gives is one of the images that a crash may leave before the next sync
 pub written_is_torn : (held bytes : List ℕ) (at : ℕ) → at ≤ length held → IsTorn ((at, length bytes) ∷ []) held (content_after_write held at bytes)
