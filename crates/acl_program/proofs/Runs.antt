@@ -4,7 +4,7 @@ use Rattle.std.proofs.Math.Bool.{and-true}
 use Rattle.std.proofs.lemmas.Bool.Decides.{eqb_tells}
 use Rattle.std.proofs.lemmas.List.{get_or-set_same, get_or-set_other}
 use Rattle.acl_names.specs.declared.auth.AuthId.{AuthId}
-use Rattle.acl_rows.specs.State.{State, state_of, opening}
+use Rattle.first_rows.specs.State.{State, state_of, opening}
 use Rattle.acl_program.specs.Answers.{Acting, acting_after, answer_to, statement_answer, why_refused, MayAnswer}
 use Rattle.acl_program.specs.Effects.{after, state_after}
 use Rattle.acl_program.specs.Seats.{acting_of, answer_at, Accepts, StandsFor, Seats, IsInTable, Follows}

@@ -2,8 +2,8 @@
 use Rattle.std.specs.Prelude.{◌≡◌, ◌⊎◌, ℕ, ◌+◌, Bool, List, Option, Some, None, option_map, if◌then◌else◌, codes}
 use Rattle.acl_names.specs.AuthId.{same_auth}
 use Rattle.acl_names.specs.declared.auth.AuthId.{AuthId}
-use Rattle.acl_rows.specs.State.{State, root}
-use Rattle.acl_rows.specs.declared.row.Row.TheVariants.{Account, Global}
+use Rattle.first_rows.specs.State.{State, root}
+use Rattle.first_rows.specs.declared.row.Row.TheVariants.{Account, Global}
 use Rattle.acl_program.specs.Effects.{refusal}
 use Rattle.acl_program.specs.declared.answer.Answer.{Answer}
 use Rattle.acl_program.specs.declared.answer.Answer.TheVariants.{Connected, Allowed, Denied as DeniedCheck, Done, Refused}

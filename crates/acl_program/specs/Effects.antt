@@ -1,8 +1,8 @@
 -- What statements do to the state, and which are refused
 -- (MySQL 8.0 Reference Manual, "CREATE USER Statement", "GRANT Statement").
 use Rattle.std.specs.Prelude.{List, [], ◌∷◌, Option, Some, None, if◌then◌else◌}
-use Rattle.acl_rows.specs.State.{State, with_row}
-use Rattle.acl_rows.specs.declared.row.Row.TheVariants.{Account, Global}
+use Rattle.first_rows.specs.State.{State, with_row}
+use Rattle.first_rows.specs.declared.row.Row.TheVariants.{Account, Global}
 use Rattle.acl_program.specs.declared.statement.Statement.{Statement}
 use Rattle.acl_program.specs.declared.statement.Statement.TheVariants.{CreateUser, Grant}
 use Rattle.acl_program.specs.declared.statement.Refusal.{Refusal}

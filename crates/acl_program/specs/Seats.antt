@@ -1,7 +1,7 @@
 -- How the stored sessions stand for whom they act as.
 use Rattle.std.specs.Prelude.{◌≡◌, ℕ, ◌+◌, ◌<◌, List, length, Option, Some, None, slice_set, slice_index_or}
 use Rattle.priv_sets.specs.StaticSet.{holds}
-use Rattle.acl_rows.specs.State.{State, state_of}
+use Rattle.first_rows.specs.State.{State, state_of}
 use Rattle.acl_program.specs.Answers.{Acting, acting_after, answer_to}
 use Rattle.acl_program.specs.Effects.{state_after}
 use Rattle.acl_program.specs.Sessions.{Past, accepted, acting, history, state}

@@ -1,6 +1,6 @@
 -- Which answers a run may give: a rule over the accepted statements and over each session's last CONNECT.
 use Rattle.std.specs.Prelude.{◌≡◌, ℕ, Bool, true, false, ◌&&◌, ◌==◌, if◌then◌else◌, List, [], ◌∷◌, ◌++◌, length, Option, None}
-use Rattle.acl_rows.specs.State.{State, opening}
+use Rattle.first_rows.specs.State.{State, opening}
 use Rattle.acl_program.specs.Answers.{Acting, acting_after, answer_to, MayAnswer}
 use Rattle.acl_program.specs.Effects.{state_after}
 use Rattle.acl_program.specs.declared.answer.Answer.{Answer}

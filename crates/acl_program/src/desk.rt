@@ -1,8 +1,8 @@
 ghost use Rattle.std.specs.Prelude.{◌≡◌, ℕ, [], ◌+◌, ◌<◌, ◌^◌, IfOk, OnOk, OnErr, vec_len, length, None, Some, replicate};
 ghost use Rattle.std.specs.Str.{str_to_ascii_lowercase};
 ghost use Rattle.acl_names.specs.AuthId.{same_auth};
-ghost use Rattle.acl_rows.specs.State.{root, state_of};
-ghost use Rattle.acl_rows.specs.declared.row.Row.TheVariants.{Account as AccountRow};
+ghost use Rattle.first_rows.specs.State.{root, state_of};
+ghost use Rattle.first_rows.specs.declared.row.Row.TheVariants.{Account as AccountRow};
 ghost use Rattle.acl_program.specs.Answers.{acting_after, check_answer, chosen, login_answer, why_refused, MayAnswer};
 ghost use Rattle.acl_program.specs.Effects.{after, refusal};
 ghost use Rattle.acl_program.specs.Seats.{acting_of, answer_at, Accepts, Follows, IsInTable, IsSeatedAnew, Seats, StandsFor};
@@ -11,7 +11,7 @@ use crate::answer::{Answer, Denial, LineRefusal, LoginRefusal};
 use crate::command::{Command, Line};
 use crate::statement::{Refusal, Statement};
 use acl_names::{AuthId, HostText, UserName};
-use acl_rows::{Row, Rows};
+use first_rows::{Row, Rows};
 use priv_sets::{Plain, Static};
 use std::alloc::{AllocError, Global};
 

@@ -1,9 +1,9 @@
 use Rattle.std.proofs.Common.{◌≡◌, ◌∙◌, ap, arith}
 use Rattle.acl_names.specs.declared.auth.AuthId.{AuthId}
-use Rattle.acl_rows.specs.State.{state_of, with_row, root}
-use Rattle.acl_rows.specs.declared.row.Row.TheVariants.{Account, Global}
-use Rattle.acl_rows.proofs.Opening.{opening_below, opening_below-zero, opening_below-next, opening_below-all}
-use Rattle.acl_rows.proofs.rows.Rows.opening.Goals as goal
+use Rattle.first_rows.specs.State.{state_of, with_row, root}
+use Rattle.first_rows.specs.declared.row.Row.TheVariants.{Account, Global}
+use Rattle.first_rows.proofs.Opening.{opening_below, opening_below-zero, opening_below-next, opening_below-all}
+use Rattle.first_rows.proofs.rows.Rows.opening.Goals as goal
 
 pub loop-number-init : goal.loop-number-init
 loop-number-init c =

@@ -6,10 +6,10 @@ use Rattle.std.proofs.lemmas.Bool.{and_parts, eqb-true}
 use Rattle.acl_names.specs.AuthId.{same_auth}
 use Rattle.acl_names.proofs.SameAuth.{equal_from_same_auth, same_auth_itself}
 use Rattle.acl_names.specs.declared.auth.AuthId.{AuthId}
-use Rattle.acl_rows.specs.Row.{same_row}
-use Rattle.acl_rows.specs.State.{State, state_of, with_row}
-use Rattle.acl_rows.specs.declared.row.Row.{Row}
-use Rattle.acl_rows.specs.declared.row.Row.TheVariants.{Account, Global}
+use Rattle.first_rows.specs.Row.{same_row}
+use Rattle.first_rows.specs.State.{State, state_of, with_row}
+use Rattle.first_rows.specs.declared.row.Row.{Row}
+use Rattle.first_rows.specs.declared.row.Row.TheVariants.{Account, Global}
 
 -- rows that are the same are equal
 pub equal_from_same_row : (a b : Row) → same_row a b ≡ true → a ≡ b

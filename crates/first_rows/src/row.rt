@@ -16,8 +16,8 @@ pub enum Row {
 }
 
 impl Row {
-    ghost use Rattle.acl_rows.specs.Row.{same_row};
-    ghost use Rattle.acl_rows.specs.declared.row.Row.TheVariants.{Global as GlobalRow};
+    ghost use Rattle.first_rows.specs.Row.{same_row};
+    ghost use Rattle.first_rows.specs.declared.row.Row.TheVariants.{Global as GlobalRow};
 
     /// Whether both are one row.
     pub fn is(&self, other: &Row) -> bool

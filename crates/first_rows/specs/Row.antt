@@ -1,8 +1,8 @@
 -- When two rows are one.
 use Rattle.std.specs.Prelude.{Bool, false, ◌&&◌, ◌==◌}
 use Rattle.acl_names.specs.AuthId.{same_auth}
-use Rattle.acl_rows.specs.declared.row.Row.{Row}
-use Rattle.acl_rows.specs.declared.row.Row.TheVariants.{Account, Global}
+use Rattle.first_rows.specs.declared.row.Row.{Row}
+use Rattle.first_rows.specs.declared.row.Row.TheVariants.{Account, Global}
 
 -- the same kind of row with the same fields
 abbrev pub same_row : Row → Row → Bool

@@ -1,7 +1,7 @@
 ghost use Rattle.std.specs.Prelude.{◌≡◌, ◌↔◌, IsTrue, false};
-ghost use Rattle.acl_rows.specs.Row.{same_row};
-ghost use Rattle.acl_rows.specs.State.{State, with_row};
-ghost use Rattle.acl_rows.specs.declared.row.Row.{Row};
+ghost use Rattle.first_rows.specs.Row.{same_row};
+ghost use Rattle.first_rows.specs.State.{State, with_row};
+ghost use Rattle.first_rows.specs.declared.row.Row.{Row};
 
 /// The law that two rows are the same exactly where they are equal. It does nothing when it runs.
 pub fn same_rows_are_equal()

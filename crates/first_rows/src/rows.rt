@@ -1,6 +1,6 @@
 ghost use Rattle.std.specs.Prelude.{◌≡◌, ◌==◌, ◌&&◌, ◌||◌, ℕ, nat_lt, IfOk, OnOk, OnErr};
 ghost use Rattle.priv_sets.specs.StaticSet.{holds};
-ghost use Rattle.acl_rows.specs.State.{root as root_account};
+ghost use Rattle.first_rows.specs.State.{root as root_account};
 
 use crate::Row;
 use acl_names::{AuthId, HostText, UserName};
@@ -16,7 +16,7 @@ pub struct Rows {
 
 impl Model for Rows {
     ghost use Rattle.std.specs.Prelude.{List};
-    ghost use Rattle.acl_rows.specs.declared.row.Row.{Row};
+    ghost use Rattle.first_rows.specs.declared.row.Row.{Row};
 
     ghost Value = { List Row };
 
@@ -24,8 +24,8 @@ impl Model for Rows {
 }
 
 impl Rows {
-    ghost use Rattle.acl_rows.specs.declared.row.Row.TheVariants.{Global as GlobalRow};
-    ghost use Rattle.acl_rows.specs.State.{state_of, with_row, opening as opening_state};
+    ghost use Rattle.first_rows.specs.declared.row.Row.TheVariants.{Global as GlobalRow};
+    ghost use Rattle.first_rows.specs.State.{state_of, with_row, opening as opening_state};
 
     /// What stands before the first statement: `root`@`localhost` with each static privilege on `*.*`.
     pub fn opening(alloc: Global) -> Result<Rows, AllocError>

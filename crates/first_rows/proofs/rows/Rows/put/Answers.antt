@@ -1,7 +1,7 @@
 use Rattle.std.proofs.Common.{◌∙◌, ap}
-use Rattle.acl_rows.specs.State.{state_of, with_row}
-use Rattle.acl_rows.proofs.States.{state_of-push}
-use Rattle.acl_rows.proofs.rows.Rows.put.Goals as goal
+use Rattle.first_rows.specs.State.{state_of, with_row}
+use Rattle.first_rows.proofs.States.{state_of-push}
+use Rattle.first_rows.proofs.rows.Rows.put.Goals as goal
 
 pub returns-in_ok-push-clause-ok : goal.returns-in_ok-push-clause-ok
 returns-in_ok-push-clause-ok c =

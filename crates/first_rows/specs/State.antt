@@ -3,9 +3,9 @@ use Rattle.std.specs.Prelude.{Bool, ◌||◌, ◌&&◌, nat_lt, List, codes}
 use Rattle.std.specs.List.{list_any}
 use Rattle.acl_names.specs.AuthId.{same_auth}
 use Rattle.acl_names.specs.declared.auth.AuthId.{AuthId}
-use Rattle.acl_rows.specs.Row.{same_row}
-use Rattle.acl_rows.specs.declared.row.Row.{Row}
-use Rattle.acl_rows.specs.declared.row.Row.TheVariants.{Account, Global}
+use Rattle.first_rows.specs.Row.{same_row}
+use Rattle.first_rows.specs.declared.row.Row.{Row}
+use Rattle.first_rows.specs.declared.row.Row.TheVariants.{Account, Global}
 
 -- a state says of each row whether it stands
 abbrev pub State : Type 0

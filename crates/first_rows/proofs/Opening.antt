@@ -3,9 +3,9 @@ use Rattle.std.proofs.Common.{◌≡◌, ℕ, ◌+◌, Bool, true, false, ◌||�
 use Rattle.std.proofs.Math.Bool.{or-false}
 use Rattle.std.proofs.lemmas.Bool.Decides.{nat_tests}
 use Rattle.acl_names.specs.AuthId.{same_auth}
-use Rattle.acl_rows.specs.State.{State, state_of, with_row, root, opening}
-use Rattle.acl_rows.specs.declared.row.Row.{Row}
-use Rattle.acl_rows.specs.declared.row.Row.TheVariants.{Account, Global}
+use Rattle.first_rows.specs.State.{State, state_of, with_row, root, opening}
+use Rattle.first_rows.specs.declared.row.Row.{Row}
+use Rattle.first_rows.specs.declared.row.Row.TheVariants.{Account, Global}
 
 -- the first state as far as the privileges below a number
 abbrev pub opening_below : ℕ → State
