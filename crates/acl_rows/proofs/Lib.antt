@@ -1,0 +1,14 @@
+pub mod Counting
+pub mod Data
+pub mod Differ
+pub mod Firsts
+pub mod Holdings
+pub mod Lookups
+pub mod Members
+pub mod Openings
+pub mod Puts
+pub mod Renamings
+pub mod Rooms
+pub mod RowOrder
+pub mod States
+pub mod Distinct
