@@ -1,0 +1,4 @@
+pub mod Creating
+pub mod Limiting
+pub mod Renaming
+pub mod Refusing

@@ -1,0 +1,5 @@
+pub mod Applied
+pub mod Built
+pub mod Causes
+pub mod Created
+pub mod Renamed

@@ -1,0 +1,85 @@
+//! RENAME USER.
+ghost use Rattle.std.specs.Prelude.{◌≡◌, [], None, IfErr, IfOk, OnOk};
+ghost use Rattle.std.specs.List.{find};
+ghost use Rattle.std.specs.Option.{option_copied, option_map};
+ghost use Rattle.acl_names.specs.AuthId.{same_auth};
+ghost use Rattle.acl_model.specs.Effects.{changed};
+ghost use Rattle.acl_model.specs.Refusals.{first_fault};
+ghost use Rattle.acl_model.specs.Rows.{lists};
+ghost use Rattle.acl_model.specs.State.{is_mandatory, stands};
+ghost use Rattle.acl_rows.specs.Changes.{renamed};
+ghost use Rattle.acl_rows.specs.Tables.{state_of};
+ghost use Rattle.acl_stmt.specs.declared.statement.Statement.TheVariants.{RenameUser};
+ghost use Rattle.acl_apply.specs.Causes.{IsFault};
+ghost use Rattle.acl_apply.specs.Renamed.{pair_fault};
+
+use acl_names::AuthId;
+use acl_rows::{Row, Rows};
+use acl_stmt::Refusal;
+use std::alloc::Global;
+
+/// The rows after RENAME USER.
+pub(crate) fn rename_users(
+    alloc: Global,
+    before: &Rows,
+    pairs: &[(AuthId, AuthId)],
+) -> Result<Rows, Refusal>
+    ensures fault { OnOk result (first_fault (state_of before.now) (RenameUser pairs.now) ≡ None) }
+    ensures changed { IfOk result (λ rows.
+        state_of rows ≡ changed [] (RenameUser pairs.now) (state_of before.now)) }
+    ensures err { IfErr result (IsFault (first_fault (state_of before.now) (RenameUser pairs.now))) }
+{
+    let Ok(mut rows) = before.copy(alloc) else {
+        return Err(Refusal::NoMemory);
+    };
+    for pair in pairs {
+        rename_user(alloc, &mut rows, &pair.0, &pair.1)?;
+    }
+    let Some(role) = first_mandatory(before, pairs) else {
+        return Ok(rows);
+    };
+    match role.copy(alloc) {
+        Ok(role) => Err(Refusal::Mandatory { role }),
+        Err(_) => Err(Refusal::NoMemory),
+    }
+}
+
+pub(crate) fn stands(rows: &Rows, account: &AuthId) -> bool
+    ensures { result ≡ stands (state_of rows.now) account.now }
+{
+    rows.account(account).is_some()
+}
+
+fn rename_user(alloc: Global, rows: &mut Rows, old: &AuthId, new: &AuthId) -> Result<(), Refusal>
+    ensures fault { OnOk result (pair_fault (stands (state_of rows.old)) old.now new.now ≡ None) }
+    ensures ok { OnOk result (state_of rows.new ≡ renamed old.now new.now (state_of rows.old)) }
+    ensures err { IfErr result (IsFault (pair_fault (stands (state_of rows.old)) old.now new.now)) }
+{
+    if !stands(rows, old) {
+        let account = old.copy(alloc).map_err(|_| Refusal::NoMemory)?;
+        return Err(Refusal::NoSuchAccount { account });
+    }
+    let account = new.copy(alloc).map_err(|_| Refusal::NoMemory)?;
+    if stands(rows, new) {
+        return Err(Refusal::AccountExists { account });
+    }
+    rows.rename(alloc, old, account)
+        .map_err(|_| Refusal::NoMemory)
+}
+
+fn is_mandatory(rows: &Rows, role: &AuthId) -> bool
+    ensures { result ≡ is_mandatory (state_of rows.now) role.now }
+{
+    rows.mandatory().iter().any(|name| role.is(name))
+}
+
+// The first old name that is mandatory.
+fn first_mandatory<'a>(rows: &Rows, pairs: &'a [(AuthId, AuthId)]) -> Option<&'a AuthId>
+    ensures { option_copied result ≡ option_map (λ pair. pair.0)
+        (find (λ pair. is_mandatory (state_of rows.now) pair.0) pairs.now) }
+{
+    pairs
+        .iter()
+        .find(|pair| is_mandatory(rows, &pair.0))
+        .map(|pair| &pair.0)
+}
