@@ -8,3 +8,4 @@ pub mod Runs
 pub mod Spans
 pub mod Unique
 pub mod Values
+pub mod Written

@@ -1,0 +1,11 @@
+pub mod Accounts
+pub mod Bytes
+pub mod Closings
+pub mod Findings
+pub mod Fronts
+pub mod Lists
+pub mod Longest
+pub mod Names
+pub mod OneByOne
+pub mod Pieces
+pub mod Written

@@ -1,0 +1,5 @@
+pub mod Cutting
+pub mod Roles
+pub mod Runs
+pub mod Spelling
+pub mod Text

@@ -1,0 +1,71 @@
+-- The roles that a text spells. MySQL 8.0 Reference Manual, "mandatory_roles" and "Specifying Role Names".
+use Rattle.std.specs.Prelude.{◌≡◌, ℕ, zero, suc, Bool, ◌==◌, ◌&&◌, is_some, is_none, not, if◌then◌else◌, List, [], ◌∷◌, Option, Some, None, option_map, codes, refl}
+use Rattle.std.specs.Str.{chars, str_to_ascii_lowercase}
+use Rattle.account_match.specs.Form.{form_of}
+use Rattle.acl_names.specs.Name.{name_fault}
+use Rattle.acl_names.specs.declared.auth.AuthId.{AuthId}
+use Rattle.acl_names.specs.declared.host.TheConstants.{HOST_LIMIT}
+use Rattle.acl_names.specs.declared.user.TheConstants.{USER_LIMIT}
+use Rattle.grant_lex.specs.Value.{value_of, inside_value}
+use Rattle.reserved_words.specs.Reserved.{reserved_words}
+use Rattle.mandatory_roles.specs.Cutting.{Written, closed_at, is_empty, written_at}
+use Rattle.mandatory_roles.specs.declared.read.TheConstants.{ROLE_LIMIT}
+
+-- within the rules of users, and not empty
+abbrev pub is_role_user : List ℕ → Bool
+is_role_user user = not (is_empty user) && is_none (name_fault USER_LIMIT user)
+
+-- within the rules of hosts, and in lower case a host that can be compared with clients
+abbrev pub is_role_host : List ℕ → Bool
+is_role_host host = is_none (name_fault HOST_LIMIT host) && is_some (form_of (str_to_ascii_lowercase host))
+
+abbrev pub user_of : List ℕ → Option (List ℕ)
+user_of user = if is_role_user user then Some user else None
+
+abbrev pub host_of : List ℕ → Option (List ℕ)
+host_of host = if is_role_host host then Some (str_to_ascii_lowercase host) else None
+
+-- the role of these two, where both are there
+abbrev pub role_from : Option (List ℕ) → Option (List ℕ) → Option AuthId
+role_from None host = None
+role_from (Some user) None = None
+role_from (Some user) (Some host) = Some (record { user = user; host = host })
+
+-- the role whose name and host are written so
+abbrev pub role_of : List ℕ → List ℕ → Option AuthId
+role_of name host = role_from (user_of (value_of name)) (host_of (value_of host))
+
+-- nothing follows the role, or a comma, of code 44, and more
+abbrev pub roles_behind : (List ℕ → Option (List AuthId)) → List ℕ → Option (List AuthId)
+roles_behind more [] = Some []
+roles_behind more (b ∷ bs) = if b == 44 then more bs else None
+
+abbrev pub with_role : (List ℕ → Option (List AuthId)) → List ℕ → Option AuthId → Option (List AuthId)
+with_role more rest None = None
+with_role more rest (Some role) = option_map (λ roles. role ∷ roles) (roles_behind more rest)
+
+abbrev pub with_written : (List ℕ → Option (List AuthId)) → Option Written → Option (List AuthId)
+with_written more None = None
+with_written more (Some w) = with_role more w.rest (role_of w.name w.host)
+
+-- one role or more, so many at most
+unfoldable pub roles_up_to : ℕ → List ℕ → Option (List AuthId)
+roles_up_to zero text = None
+roles_up_to (suc n) text = with_written (roles_up_to n) (written_at text)
+
+-- the roles that the text spells; the empty text spells none of them, and is a list as well
+unfoldable pub roles_in : List ℕ → Option (List AuthId)
+roles_in [] = Some []
+roles_in (b ∷ bs) = roles_up_to ROLE_LIMIT (b ∷ bs)
+
+example-two : roles_in (codes "r1,r3@%.Example.com") ≡ Some (record { user = codes "r1"; host = codes "%" } ∷ record { user = codes "r3"; host = codes "%.example.com" } ∷ [])
+unfolding roles_in roles_up_to written_at closed_at reserved_words form_of chars
+example-two = refl
+
+example-quoted : roles_in (codes "`a``b`@ ``\t") ≡ Some (record { user = codes "a`b"; host = [] } ∷ [])
+unfolding roles_in roles_up_to written_at closed_at reserved_words form_of chars inside_value
+example-quoted = refl
+
+example-blanks : roles_in (codes "  ") ≡ None
+unfolding roles_in roles_up_to written_at closed_at
+example-blanks = refl
