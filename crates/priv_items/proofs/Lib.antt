@@ -1,0 +1,11 @@
+pub mod EachOnce
+pub mod Fits
+pub mod InOrder
+pub mod Lists
+pub mod NamedColumns
+pub mod Escaping
+pub mod OneList
+pub mod OwnItems
+pub mod OwnItemsFit
+pub mod ShortNames
+pub mod WithoutOption
