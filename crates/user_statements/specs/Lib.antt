@@ -1,0 +1,5 @@
+pub mod Flags
+pub mod Options
+pub mod Sanity
+pub mod Secrets
+pub mod Statements
