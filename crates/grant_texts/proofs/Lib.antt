@@ -1,0 +1,4 @@
+pub mod Disjoint
+pub mod Once
+pub mod Places
+pub mod Few
