@@ -1,0 +1,3 @@
+pub mod Disjoint
+pub mod Kept
+pub mod Unique
