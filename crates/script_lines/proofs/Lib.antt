@@ -1,0 +1,7 @@
+mod Cuts
+mod Distinct
+mod FirstLines
+mod Fronts
+mod Reading
+mod Sessions
+mod Readings
