@@ -71,9 +71,10 @@ fn time_long<C: Clock>(clock: &C, alloc: Global, text: &str) -> io::Result<(u64,
     Ok((read, start.elapsed(clock)?))
 }
 
-fn drops(alloc: Global, bytes: usize) -> io::Result<String> {
+// 16 bytes, and 8 for each further name.
+fn drops(alloc: Global, names: usize) -> io::Result<String> {
     let mut text = String::from_str(alloc, "DROP USER first0")?;
-    while text.len() < bytes - 8 {
+    for _name in 0..names {
         text.push_str(", user12")?;
     }
     Ok(text)
@@ -83,8 +84,8 @@ fn main(rt: HostRuntime) -> io::Result<()> {
     let (read, mixed) = time_mixed(&rt, rt.alloc())?;
     println!(rt; "200000 statements, {read} of them read, {} ms", mixed.as_millis())?;
     println!(rt; "{:.0} statements a second", 200_000.0 / mixed.as_secs_f64())?;
-    let half = drops(rt.alloc(), 2048)?;
-    let whole = drops(rt.alloc(), 4096)?;
+    let half = drops(rt.alloc(), 254)?;
+    let whole = drops(rt.alloc(), 510)?;
     let (half_read, half_time) = time_long(&rt, rt.alloc(), half.as_str())?;
     let (whole_read, whole_time) = time_long(&rt, rt.alloc(), whole.as_str())?;
     println!(rt; "{} and {} bytes, read {half_read} and {whole_read} times: the longer takes {:.2} times as long", half.len(), whole.len(), whole_time.as_secs_f64() / half_time.as_secs_f64())
