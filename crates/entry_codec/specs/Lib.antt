@@ -1,7 +1,1 @@
-pub mod Lists
-pub mod Privileges
-pub mod Quotes
-pub mod StatementTokens
-pub mod Statements
-pub mod Texts
-pub mod Tokens
+pub mod ReadBack

@@ -1,6 +1,0 @@
-use Rattle.entry_codec.proofs.Printable.{canonical_cut, canonical_printed}
-use Rattle.entry_codec.proofs.TokenTexts.{tokens_text}
-use Rattle.entry_codec.proofs.laws.canonical_texts_are_tokens.Goals as goal
-
-pub returns : goal.returns
-returns c = record { printed = tokens_text; apart = canonical_printed; cut = canonical_cut }

@@ -1,9 +1,0 @@
-use Rattle.entry_codec.proofs.Members.{below_start, below_step}
-use Rattle.entry_codec.specs.Privileges.{dynamic_at}
-use Rattle.entry_codec.proofs.privileges.push_all_dynamic.Goals as goal
-
-pub loop-number-init : goal.loop-number-init
-loop-number-init c = below_start (dynamic_at c.args.dynamic) _
-
-pub loop-number-preserved : goal.loop-number-preserved
-loop-number-preserved c = below_step (dynamic_at c.args.dynamic) _ _ _ _ c.in_ok-push_dynamic.ensures c.loop-number.invariant

@@ -1,8 +1,0 @@
-use Rattle.std.proofs.Common.{◌≡◌, ◌++◌, map, string_bytes}
-use Rattle.entry_codec.specs.Lists.{each_below}
-use Rattle.entry_codec.specs.Privileges.{static_at}
-use Rattle.entry_codec.proofs.privileges.push_all_static.Given as goal
-
-abbrev pub invariant-loop-number : goal.invariant-loop-number
-invariant-loop-number l =
-    map string_bytes l.items.items ≡ map string_bytes l.initial.items.items ++ each_below l.number (static_at l.privileges)

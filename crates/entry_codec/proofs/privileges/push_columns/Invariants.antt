@@ -1,8 +1,0 @@
-use Rattle.std.proofs.Common.{◌≡◌, ◌++◌, map, string_bytes, take}
-use Rattle.std.specs.List.{flat_map}
-use Rattle.entry_codec.specs.Privileges.{columns_at}
-use Rattle.entry_codec.proofs.privileges.push_columns.Given as goal
-
-abbrev pub invariant-loop-listed : goal.invariant-loop-listed
-invariant-loop-listed l =
-    map string_bytes l.items.items ≡ map string_bytes l.initial.items.items ++ flat_map (columns_at l.plain) (take l.listed-index l.columns)

@@ -1,0 +1,9 @@
+pub mod Accounts
+pub mod Items
+pub mod Members
+pub mod Names
+pub mod Privileges
+pub mod Spelled
+pub mod Statements
+pub mod Targets
+pub mod TokenValues

@@ -1,0 +1,3 @@
+pub mod Lexemes
+pub mod ReadBack
+pub mod Rules

@@ -1,0 +1,12 @@
+pub mod Numbers
+pub mod Digests
+pub mod Lists
+pub mod Names
+pub mod Passwords
+pub mod Options
+pub mod Roles
+pub mod Rules
+pub mod Users
+pub mod Granted
+pub mod Settings
+pub mod Statements
