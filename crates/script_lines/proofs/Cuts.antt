@@ -6,13 +6,14 @@ use Rattle.std.proofs.Math.Seq.{take-add}
 use Rattle.grant_refusal.specs.declared.ParseRefusal.{ParseRefusal}
 use Rattle.grant_refusal.specs.declared.ParseRefusal.TheVariants.{Syntax}
 use Rattle.script_lines.specs.Beginnings.{is_session_byte, is_session_name, IsFront, IsUnbegun}
-use Rattle.script_lines.specs.Spelling.{refusal_behind, IsCut, IsLineRefused, IsNoCommand, Spells}
+use Rattle.script_lines.specs.Spelling.{refusal_on_line, IsCut, IsLineRefused, IsNoCommand, Spells}
+use Rattle.script_lines.specs.declared.refusal.CommandRefusal.{CommandRefusal}
 
 -- what is owed of the commands: one meaning, one refusal, and never both
-pub record IsExact {M : Type 0} (spelled : List ℕ → M → Type 0) (refused : List ℕ → ParseRefusal → Type 0) : Type 0 where
+pub record IsExact {M : Type 0} (spelled : List ℕ → M → Type 0) (refused : List ℕ → CommandRefusal → Type 0) : Type 0 where
   pub one_meaning : (text : List ℕ) (first second : M) → spelled text first → spelled text second → first ≡ second
-  pub one_refusal : (text : List ℕ) (first second : ParseRefusal) → refused text first → refused text second → first ≡ second
-  pub apart : (text : List ℕ) (meaning : M) (refusal : ParseRefusal) → spelled text meaning → refused text refusal → ⊥
+  pub one_refusal : (text : List ℕ) (first second : CommandRefusal) → refused text first → refused text second → first ≡ second
+  pub apart : (text : List ℕ) (meaning : M) (refusal : CommandRefusal) → spelled text meaning → refused text refusal → ⊥
 
 -- what stands before the first `>`, and what stands behind the byte that follows it
 pub front_of : List ℕ → List ℕ
@@ -79,16 +80,16 @@ one_place text first second a b =
 
 -- one refusal of a line
 
-one_command_refusal : {M : Type 0} (spelled : List ℕ → M → Type 0) (refused : List ℕ → ParseRefusal → Type 0) (text : List ℕ) (first second : ParseRefusal) → IsExact spelled refused
+one_command_refusal : {M : Type 0} (spelled : List ℕ → M → Type 0) (refused : List ℕ → CommandRefusal → Type 0) (text : List ℕ) (first second : ParseRefusal) → IsExact spelled refused
     → IsNoCommand refused text first → IsNoCommand refused text second → first ≡ second
 one_command_refusal spelled refused text first second exact a b =
     let names : a.name ≡ b.name = sym (cut_front text a.name a.command a.cut) ∙ cut_front text b.name b.command b.cut in
     let commands : a.command ≡ b.command = sym (cut_back text a.name a.command a.cut) ∙ cut_back text b.name b.command b.cut in
     let P : List ℕ → Type 0 = λ command. refused command b.cause in
     let causes : a.cause ≡ b.cause = exact.one_refusal a.command a.cause b.cause a.is_cause (subst P (sym commands) b.is_cause) in
-    a.refusal_is ∙ ap (λ name. refusal_behind (length name + 2) a.cause) names ∙ ap (refusal_behind (length b.name + 2)) causes ∙ sym b.refusal_is
+    a.refusal_is ∙ ap (λ name. refusal_on_line (length name + 2) a.cause) names ∙ ap (refusal_on_line (length b.name + 2)) causes ∙ sym b.refusal_is
 
-pub one_line_refusal : {M : Type 0} (spelled : List ℕ → M → Type 0) (refused : List ℕ → ParseRefusal → Type 0) (text : List ℕ) (first second : ParseRefusal) → IsExact spelled refused
+pub one_line_refusal : {M : Type 0} (spelled : List ℕ → M → Type 0) (refused : List ℕ → CommandRefusal → Type 0) (text : List ℕ) (first second : ParseRefusal) → IsExact spelled refused
     → IsLineRefused refused text first → IsLineRefused refused text second → first ≡ second
 one_line_refusal spelled refused text first second exact (inl a) (inl b) = a.refusal_is ∙ sym b.refusal_is
 one_line_refusal spelled refused text first second exact (inl a) (inr (inl b)) = absurd (a.broken b.utf8)
@@ -101,7 +102,7 @@ one_line_refusal spelled refused text first second exact (inr (inr a)) (inr (inl
 one_line_refusal spelled refused text first second exact (inr (inr a)) (inr (inr b)) = one_command_refusal spelled refused text first second exact a b
 
 -- a line that is refused spells nothing
-pub refused_unspelled : {M : Type 0} (spelled : List ℕ → M → Type 0) (refused : List ℕ → ParseRefusal → Type 0) (text name : List ℕ) (meaning : M) (refusal : ParseRefusal) → IsExact spelled refused
+pub refused_unspelled : {M : Type 0} (spelled : List ℕ → M → Type 0) (refused : List ℕ → CommandRefusal → Type 0) (text name : List ℕ) (meaning : M) (refusal : ParseRefusal) → IsExact spelled refused
     → IsLineRefused refused text refusal → Spells spelled text name meaning → ⊥
 refused_unspelled spelled refused text name meaning refusal exact (inl a) spells = a.broken spells.cut.utf8
 refused_unspelled spelled refused text name meaning refusal exact (inr (inl a)) spells = a.unbegun.unbegun name spells.command spells.cut.is_name spells.cut.text_is
@@ -111,7 +112,7 @@ refused_unspelled spelled refused text name meaning refusal exact (inr (inr a)) 
     exact.apart a.command meaning a.cause (subst P commands spells.means) a.is_cause
 
 -- one meaning of a line
-pub one_line_meaning : {M : Type 0} (spelled : List ℕ → M → Type 0) (refused : List ℕ → ParseRefusal → Type 0) (text name other : List ℕ) (first second : M) → IsExact spelled refused
+pub one_line_meaning : {M : Type 0} (spelled : List ℕ → M → Type 0) (refused : List ℕ → CommandRefusal → Type 0) (text name other : List ℕ) (first second : M) → IsExact spelled refused
     → Spells spelled text name first → Spells spelled text other second → first ≡ second
 one_line_meaning spelled refused text name other first second exact a b =
     let commands : b.command ≡ a.command = sym (cut_back text other b.command b.cut) ∙ cut_back text name a.command a.cut in

@@ -4,7 +4,6 @@ use Rattle.std.specs.Bool.{MatchBool}
 use Rattle.std.specs.Str.Lines.{lines}
 use Rattle.std.proofs.Math.Seq.{get_or-append_seam}
 use Rattle.std.proofs.lemmas.List.{map-append}
-use Rattle.grant_refusal.specs.declared.ParseRefusal.{ParseRefusal}
 use Rattle.script_lines.proofs.Sessions.{first_appearances-push, grows, Grows}
 use Rattle.script_lines.specs.Adding.{with_name, Adds, IsNotAdded, IsNotSeated, IsNotTaken, Takes}
 use Rattle.script_lines.specs.Refusals.{IsRefused}
@@ -12,6 +11,7 @@ use Rattle.script_lines.specs.Script.{first_appearances, owner, seen, AreLines, 
 use Rattle.script_lines.specs.Spelling.{Spells}
 use Rattle.script_lines.specs.Texts.{command_lines, is_passed_over, numbered}
 use Rattle.script_lines.specs.declared.lines.Line.{Line}
+use Rattle.script_lines.specs.declared.refusal.CommandRefusal.{CommandRefusal}
 use Rattle.script_lines.specs.declared.refusal.ScriptRefusal.{ScriptRefusal}
 use Rattle.script_lines.specs.declared.refusal.ScriptRefusal.TheVariants.{BadLine, Limit, NoMemory}
 use Rattle.script_lines.specs.declared.refusal.Which.TheVariants.{Bytes, Lines, Sessions}
@@ -136,7 +136,7 @@ read_next spelled bytes rest text behind number names new_names ls new_ls so_far
     read_step spelled bytes rest text behind number names new_names ls new_ls (is_passed_over text) so_far first less refl takes few
 
 -- a line that is not added refuses the script
-refused_by : {M : Type 0} (spelled : List ℕ → M → Type 0) (refused : List ℕ → ParseRefusal → Type 0) (bytes text : List ℕ) (number : ℕ) (front behind : List (ℕ × List ℕ)) (names : List (List ℕ)) (ls : List (Line M)) (refusal : ScriptRefusal)
+refused_by : {M : Type 0} (spelled : List ℕ → M → Type 0) (refused : List ℕ → CommandRefusal → Type 0) (bytes text : List ℕ) (number : ℕ) (front behind : List (ℕ × List ℕ)) (names : List (List ℕ)) (ls : List (Line M)) (refusal : ScriptRefusal)
     → command_lines bytes ≡ front ++ (number, text) ∷ behind → AreLines spelled front names ls → length names ≤ 64 → IsWithinLimits bytes → IsNotAdded spelled refused (number, text) names ls refusal → IsRefused spelled refused bytes refusal
 refused_by spelled refused bytes text number front behind names ls (BadLine other refusal) split are few within why = record {
   within = within;
@@ -170,14 +170,14 @@ refused_by spelled refused bytes text number front behind names ls (Limit Sessio
 )
 refused_by spelled refused bytes text number front behind names ls NoMemory split are few within why = tt
 
-pub refused_here : {M : Type 0} (spelled : List ℕ → M → Type 0) (refused : List ℕ → ParseRefusal → Type 0) (bytes rest text behind : List ℕ) (number : ℕ) (names : List (List ℕ)) (ls : List (Line M)) (refusal : ScriptRefusal)
+pub refused_here : {M : Type 0} (spelled : List ℕ → M → Type 0) (refused : List ℕ → CommandRefusal → Type 0) (bytes rest text behind : List ℕ) (number : ℕ) (names : List (List ℕ)) (ls : List (Line M)) (refusal : ScriptRefusal)
     → IsReadUpTo spelled bytes rest number names ls → lines rest ≡ text ∷ lines behind → IsWithinLimits bytes → IsNotTaken spelled refused (number + 1, text) names ls refusal → IsRefused spelled refused bytes refusal
 refused_here spelled refused bytes rest text behind number names ls refusal so_far first within why =
     refused_by spelled refused bytes text (number + 1) so_far.texts (numbered (number + 1 + 1) (lines behind)) names ls refusal
     (left_after bytes rest text behind (number + 1) so_far.texts false so_far.split first why.0) so_far.are_lines so_far.few within why.1
 
 -- a spelled line whose session is not seated is not added
-pub not_seated : {M : Type 0} (spelled : List ℕ → M → Type 0) (refused : List ℕ → ParseRefusal → Type 0) (text : ℕ × List ℕ) (name : List ℕ) (meaning : M) (names : List (List ℕ)) (ls : List (Line M)) (refusal : ScriptRefusal)
+pub not_seated : {M : Type 0} (spelled : List ℕ → M → Type 0) (refused : List ℕ → CommandRefusal → Type 0) (text : ℕ × List ℕ) (name : List ℕ) (meaning : M) (names : List (List ℕ)) (ls : List (Line M)) (refusal : ScriptRefusal)
     → Spells spelled text.1 name meaning → IsNotSeated names name refusal → IsNotAdded spelled refused text names ls refusal
 not_seated spelled refused text name meaning names ls (BadLine number refusal) spells why = absurd why
 not_seated spelled refused text name meaning names ls (Limit Bytes number) spells why = absurd why

@@ -14,6 +14,7 @@ use Rattle.script_lines.specs.Script.{first_appearances, owner, AreLines, EachIs
 use Rattle.script_lines.specs.Spelling.{IsLineRefused, Spells}
 use Rattle.script_lines.specs.Texts.{command_lines}
 use Rattle.script_lines.specs.declared.lines.Line.{Line}
+use Rattle.script_lines.specs.declared.refusal.CommandRefusal.{CommandRefusal}
 use Rattle.script_lines.specs.declared.refusal.ScriptRefusal.{ScriptRefusal}
 use Rattle.script_lines.specs.declared.refusal.ScriptRefusal.TheVariants.{BadLine, Limit, NoMemory}
 use Rattle.script_lines.specs.declared.refusal.Which.{Which}
@@ -61,7 +62,7 @@ at_text spelled [] text rest each = each.0
 at_text spelled (first ∷ front) text rest each = at_text spelled front text rest each.1
 
 -- spelled lines stop before the first that is refused
-stops : {M : Type 0} (spelled : List ℕ → M → Type 0) (refused : List ℕ → ParseRefusal → Type 0) (texts : List (ℕ × List ℕ)) (n : ℕ) (refusal : ParseRefusal) (long behind : List (ℕ × List ℕ)) → IsExact spelled refused
+stops : {M : Type 0} (spelled : List ℕ → M → Type 0) (refused : List ℕ → CommandRefusal → Type 0) (texts : List (ℕ × List ℕ)) (n : ℕ) (refusal : ParseRefusal) (long behind : List (ℕ × List ℕ)) → IsExact spelled refused
     → (first : IsFirstRefused spelled refused texts n refusal) → texts ≡ long ++ behind → HaveSessions spelled long → length long ≤ length first.front
 stops spelled refused texts n refusal long behind exact first split has =
     let P : List (ℕ × List ℕ) → Type 0 = λ ts. AllByRecursion (IsSpelled spelled) ts in
@@ -110,7 +111,7 @@ same_place : (a b x y : List (ℕ × List ℕ)) (s t : ℕ × List ℕ) → a ++
 same_place a b x y s t e same =
     sym (get_or-append_seam a s x s) ∙ ap (λ n. get_or (a ++ s ∷ x) n s) same ∙ ap (λ l. get_or l (length b) s) e ∙ get_or-append_seam b t y s
 
-one_first : {M : Type 0} (spelled : List ℕ → M → Type 0) (refused : List ℕ → ParseRefusal → Type 0) (texts : List (ℕ × List ℕ)) (m n : ℕ) (p q : ParseRefusal) → IsExact spelled refused
+one_first : {M : Type 0} (spelled : List ℕ → M → Type 0) (refused : List ℕ → CommandRefusal → Type 0) (texts : List (ℕ × List ℕ)) (m n : ℕ) (p q : ParseRefusal) → IsExact spelled refused
     → IsFirstRefused spelled refused texts m p → IsFirstRefused spelled refused texts n q → BadLine m p ≡ BadLine n q
 one_first spelled refused texts m n p q exact a b =
     let below = stops spelled refused texts n q a.front ((m, a.text) ∷ a.behind) exact b a.texts_are a.spelled_front in
@@ -122,7 +123,7 @@ one_first spelled refused texts m n p q exact a b =
     let refusal : p ≡ q = one_line_refusal spelled refused a.text p q exact a.is_refused (subst P (sym text) b.is_refused) in
     λ i. BadLine (number i) (refusal i)
 
-first_or_many : {M : Type 0} (spelled : List ℕ → M → Type 0) (refused : List ℕ → ParseRefusal → Type 0) (texts : List (ℕ × List ℕ)) (n : ℕ) (refusal : ParseRefusal) → IsExact spelled refused
+first_or_many : {M : Type 0} (spelled : List ℕ → M → Type 0) (refused : List ℕ → CommandRefusal → Type 0) (texts : List (ℕ × List ℕ)) (n : ℕ) (refusal : ParseRefusal) → IsExact spelled refused
     → IsFirstRefused spelled refused texts n refusal → HasMoreSessions spelled texts 64 → ⊥
 first_or_many spelled refused texts n refusal exact first more =
     let short = stops spelled refused texts n refusal more.front more.behind exact first more.texts_are more.spelled_front in
@@ -130,7 +131,7 @@ first_or_many spelled refused texts n refusal exact first more =
     let few = fewer_sessions spelled more.front first.front rest.0 more.spelled_front first.spelled_front rest.1 in
     omega (arith, few, more.many, first.few)
 
-taken_no_first : {M : Type 0} (spelled : List ℕ → M → Type 0) (refused : List ℕ → ParseRefusal → Type 0) (bytes : List ℕ) (names : List (List ℕ)) (lines : List (Line M)) (n : ℕ) (refusal : ParseRefusal) → IsExact spelled refused
+taken_no_first : {M : Type 0} (spelled : List ℕ → M → Type 0) (refused : List ℕ → CommandRefusal → Type 0) (bytes : List ℕ) (names : List (List ℕ)) (lines : List (Line M)) (n : ℕ) (refusal : ParseRefusal) → IsExact spelled refused
     → IsTaken spelled bytes names lines → IsFirstRefused spelled refused (command_lines bytes) n refusal → ⊥
 taken_no_first spelled refused bytes names lines n refusal exact taken first =
     let short = stops spelled refused (command_lines bytes) n refusal (command_lines bytes) [] exact first (sym (append-nil (command_lines bytes))) (record { names = names; lines = lines; are_lines = taken.script }) in
@@ -143,7 +144,7 @@ taken_not_many spelled bytes names lines taken more =
 
 -- one script
 
-same_line : {M : Type 0} (spelled : List ℕ → M → Type 0) (refused : List ℕ → ParseRefusal → Type 0) (all names : List (List ℕ)) (text : ℕ × List ℕ) (a b : Line M) → IsExact spelled refused → first_appearances all ≡ names
+same_line : {M : Type 0} (spelled : List ℕ → M → Type 0) (refused : List ℕ → CommandRefusal → Type 0) (all names : List (List ℕ)) (text : ℕ × List ℕ) (a b : Line M) → IsExact spelled refused → first_appearances all ≡ names
     → IsLine spelled names text a → IsLine spelled names text b → a ≡ b
 same_line spelled refused all names text a b exact are first second =
     let owner_is : owner names a ≡ owner names b =
@@ -153,7 +154,7 @@ same_line spelled refused all names text a b exact are first second =
     let command : a.command ≡ b.command = one_line_meaning spelled refused text.1 (owner names a) (owner names b) a.command b.command exact first.spells second.spells in
     λ i. record { number = number i; session = session i; command = command i }
 
-same_lines : {M : Type 0} (spelled : List ℕ → M → Type 0) (refused : List ℕ → ParseRefusal → Type 0) (all names : List (List ℕ)) (texts : List (ℕ × List ℕ)) (ones twos : List (Line M)) → IsExact spelled refused → first_appearances all ≡ names
+same_lines : {M : Type 0} (spelled : List ℕ → M → Type 0) (refused : List ℕ → CommandRefusal → Type 0) (all names : List (List ℕ)) (texts : List (ℕ × List ℕ)) (ones twos : List (Line M)) → IsExact spelled refused → first_appearances all ≡ names
     → EachIsLine spelled names texts ones → EachIsLine spelled names texts twos → ones ≡ twos
 same_lines spelled refused all names [] [] [] exact are first second = refl
 same_lines spelled refused all names [] [] (b ∷ twos) exact are first second = absurd second
@@ -163,7 +164,7 @@ same_lines spelled refused all names (text ∷ texts) (a ∷ ones) [] exact are 
 same_lines spelled refused all names (text ∷ texts) (a ∷ ones) (b ∷ twos) exact are first second =
     λ i. same_line spelled refused all names text a b exact are first.0 second.0 i ∷ same_lines spelled refused all names texts ones twos exact are first.1 second.1 i
 
-pub same_script : {M : Type 0} (spelled : List ℕ → M → Type 0) (refused : List ℕ → ParseRefusal → Type 0) (texts : List (ℕ × List ℕ)) (names others : List (List ℕ)) (ones twos : List (Line M)) → IsExact spelled refused
+pub same_script : {M : Type 0} (spelled : List ℕ → M → Type 0) (refused : List ℕ → CommandRefusal → Type 0) (texts : List (ℕ × List ℕ)) (names others : List (List ℕ)) (ones twos : List (Line M)) → IsExact spelled refused
     → AreLines spelled texts names ones → AreLines spelled texts others twos → (names ≡ others) × (ones ≡ twos)
 same_script spelled refused texts names others ones twos exact first second =
     let names_are : names ≡ others = sym (sessions_are spelled texts names ones first) ∙ sessions_are spelled texts others twos second in
@@ -172,7 +173,7 @@ same_script spelled refused texts names others ones twos exact first second =
 
 -- the causes of bytes exclude each other
 
-bad_not_beyond : {M : Type 0} (spelled : List ℕ → M → Type 0) (refused : List ℕ → ParseRefusal → Type 0) (bytes : List ℕ) (line : ℕ) (refusal : ParseRefusal) (which : Which) (number : ℕ) → IsExact spelled refused
+bad_not_beyond : {M : Type 0} (spelled : List ℕ → M → Type 0) (refused : List ℕ → CommandRefusal → Type 0) (bytes : List ℕ) (line : ℕ) (refusal : ParseRefusal) (which : Which) (number : ℕ) → IsExact spelled refused
     → IsBadLine spelled refused bytes line refusal → IsBeyond spelled bytes which number → ⊥
 bad_not_beyond spelled refused bytes line refusal Bytes number exact bad beyond = omega (arith, bad.within.bytes_are, beyond.1)
 bad_not_beyond spelled refused bytes line refusal Lines number exact bad beyond = omega (arith, bad.within.lines_are, beyond.2)
@@ -196,7 +197,7 @@ taken_not_beyond spelled bytes names lines Sessions number taken beyond = taken_
 
 -- what is answered of bytes
 
-pub taken_is_read : {M S : Type 0} (spelled : List ℕ → M → Type 0) (refused : List ℕ → ParseRefusal → Type 0) (names_of : S → List (List ℕ)) (lines_of : S → List (Line M)) (bytes : List ℕ) (result : Result S ScriptRefusal) → IsExact spelled refused
+pub taken_is_read : {M S : Type 0} (spelled : List ℕ → M → Type 0) (refused : List ℕ → CommandRefusal → Type 0) (names_of : S → List (List ℕ)) (lines_of : S → List (Line M)) (bytes : List ℕ) (result : Result S ScriptRefusal) → IsExact spelled refused
     → IfOk result (λ script. IsTaken spelled bytes (names_of script) (lines_of script)) → IfErr result (IsRefused spelled refused bytes)
     → (names : List (List ℕ)) (lines : List (Line M)) → IsTaken spelled bytes names lines → MatchResult result (λ script. (names ≡ names_of script) × (lines ≡ lines_of script)) (λ refusal. refusal ≡ NoMemory)
 taken_is_read spelled refused names_of lines_of bytes (Ok script) exact found err names lines taken =
@@ -206,7 +207,7 @@ taken_is_read spelled refused names_of lines_of bytes (Err (BadLine number refus
 taken_is_read spelled refused names_of lines_of bytes (Err (Limit which number)) exact found err names lines taken = absurd (taken_not_beyond spelled bytes names lines which number taken err)
 taken_is_read spelled refused names_of lines_of bytes (Err NoMemory) exact found err names lines taken = refl
 
-pub bad_line_is_told : {M S : Type 0} (spelled : List ℕ → M → Type 0) (refused : List ℕ → ParseRefusal → Type 0) (names_of : S → List (List ℕ)) (lines_of : S → List (Line M)) (bytes : List ℕ) (result : Result S ScriptRefusal) → IsExact spelled refused
+pub bad_line_is_told : {M S : Type 0} (spelled : List ℕ → M → Type 0) (refused : List ℕ → CommandRefusal → Type 0) (names_of : S → List (List ℕ)) (lines_of : S → List (Line M)) (bytes : List ℕ) (result : Result S ScriptRefusal) → IsExact spelled refused
     → IfOk result (λ script. IsTaken spelled bytes (names_of script) (lines_of script)) → IfErr result (IsRefused spelled refused bytes)
     → (number : ℕ) (refusal : ParseRefusal) → IsBadLine spelled refused bytes number refusal → IsAnswered result (BadLine number refusal)
 bad_line_is_told spelled refused names_of lines_of bytes (Ok script) exact found err number refusal bad =
@@ -216,7 +217,7 @@ bad_line_is_told spelled refused names_of lines_of bytes (Err (BadLine other r))
 bad_line_is_told spelled refused names_of lines_of bytes (Err (Limit which most)) exact found err number refusal bad = absurd (bad_not_beyond spelled refused bytes number refusal which most exact bad err)
 bad_line_is_told spelled refused names_of lines_of bytes (Err NoMemory) exact found err number refusal bad = inr refl
 
-pub limit_is_told : {M S : Type 0} (spelled : List ℕ → M → Type 0) (refused : List ℕ → ParseRefusal → Type 0) (names_of : S → List (List ℕ)) (lines_of : S → List (Line M)) (bytes : List ℕ) (result : Result S ScriptRefusal) → IsExact spelled refused
+pub limit_is_told : {M S : Type 0} (spelled : List ℕ → M → Type 0) (refused : List ℕ → CommandRefusal → Type 0) (names_of : S → List (List ℕ)) (lines_of : S → List (Line M)) (bytes : List ℕ) (result : Result S ScriptRefusal) → IsExact spelled refused
     → IfOk result (λ script. IsTaken spelled bytes (names_of script) (lines_of script)) → IfErr result (IsRefused spelled refused bytes)
     → (which : Which) (number : ℕ) → IsBeyond spelled bytes which number → IsAnswered result (Limit which number)
 limit_is_told spelled refused names_of lines_of bytes (Ok script) exact found err which number beyond =

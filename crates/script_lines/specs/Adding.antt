@@ -8,6 +8,7 @@ use Rattle.script_lines.specs.Refusals.{IsFault}
 use Rattle.script_lines.specs.Spelling.{IsLineRefused, Spells}
 use Rattle.script_lines.specs.Texts.{is_passed_over}
 use Rattle.script_lines.specs.declared.lines.Line.{Line}
+use Rattle.script_lines.specs.declared.refusal.CommandRefusal.{CommandRefusal}
 use Rattle.script_lines.specs.declared.refusal.ScriptRefusal.{ScriptRefusal}
 use Rattle.script_lines.specs.declared.refusal.ScriptRefusal.TheVariants.{BadLine, Limit, NoMemory}
 use Rattle.script_lines.specs.declared.refusal.Which.TheVariants.{Bytes, Lines, Sessions}
@@ -44,13 +45,13 @@ pub record AddsTooMany {Meaning : Type 0} (spelled : List ℕ → Meaning → Ty
   pub many : number < length new_names
 
 -- the line is refused so
-pub record IsBad (refused : List ℕ → ParseRefusal → Type 0) (text : ℕ × List ℕ) (number : ℕ) (refusal : ParseRefusal) : Type 0 where
+pub record IsBad (refused : List ℕ → CommandRefusal → Type 0) (text : ℕ × List ℕ) (number : ℕ) (refusal : ParseRefusal) : Type 0 where
   pub number_is : number ≡ text.0
   pub is_fault : IsFault refusal
   pub is_refused : IsLineRefused refused text.1 refusal
 
 -- why a line that has a command is not added; want of memory says nothing of it
-abbrev pub IsNotAdded : {Meaning : Type 0} → (List ℕ → Meaning → Type 0) → (List ℕ → ParseRefusal → Type 0) → ℕ × List ℕ → List (List ℕ) → List (Line Meaning) → ScriptRefusal → Type 0
+abbrev pub IsNotAdded : {Meaning : Type 0} → (List ℕ → Meaning → Type 0) → (List ℕ → CommandRefusal → Type 0) → ℕ × List ℕ → List (List ℕ) → List (Line Meaning) → ScriptRefusal → Type 0
 IsNotAdded spelled refused text names lines (BadLine number refusal) = IsBad refused text number refusal
 IsNotAdded spelled refused text names lines (Limit Bytes number) = ⊥
 IsNotAdded spelled refused text names lines (Limit Lines number) = ⊥
@@ -58,7 +59,7 @@ IsNotAdded spelled refused text names lines (Limit Sessions number) = (number �
 IsNotAdded spelled refused text names lines NoMemory = Unit {0}
 
 -- why a line is not taken
-abbrev pub IsNotTaken : {Meaning : Type 0} → (List ℕ → Meaning → Type 0) → (List ℕ → ParseRefusal → Type 0) → ℕ × List ℕ → List (List ℕ) → List (Line Meaning) → ScriptRefusal → Type 0
+abbrev pub IsNotTaken : {Meaning : Type 0} → (List ℕ → Meaning → Type 0) → (List ℕ → CommandRefusal → Type 0) → ℕ × List ℕ → List (List ℕ) → List (Line Meaning) → ScriptRefusal → Type 0
 IsNotTaken spelled refused text names lines refusal = (is_passed_over text.1 ≡ false) × IsNotAdded spelled refused text names lines refusal
 
 -- why a session is not seated: it is a new one, and there are 64

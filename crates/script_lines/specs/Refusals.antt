@@ -7,6 +7,7 @@ use Rattle.script_lines.specs.Script.{AreLines, IsWithinLimits}
 use Rattle.script_lines.specs.Spelling.{IsLineRefused}
 use Rattle.script_lines.specs.Texts.{command_lines}
 use Rattle.script_lines.specs.declared.lines.Line.{Line}
+use Rattle.script_lines.specs.declared.refusal.CommandRefusal.{CommandRefusal}
 use Rattle.script_lines.specs.declared.refusal.ScriptRefusal.{ScriptRefusal}
 use Rattle.script_lines.specs.declared.refusal.ScriptRefusal.TheVariants.{BadLine, Limit, NoMemory}
 use Rattle.script_lines.specs.declared.refusal.Which.{Which}
@@ -20,7 +21,7 @@ pub record HaveSessions {Meaning : Type 0} (spelled : List ℕ → Meaning → T
 
 -- the text with this number is the first that is refused, and is refused so: those before it are lines of a script with at
 -- most 64 sessions
-pub record IsFirstRefused {Meaning : Type 0} (spelled : List ℕ → Meaning → Type 0) (refused : List ℕ → ParseRefusal → Type 0) (texts : List (ℕ × List ℕ)) (number : ℕ) (refusal : ParseRefusal) : Type 0 where
+pub record IsFirstRefused {Meaning : Type 0} (spelled : List ℕ → Meaning → Type 0) (refused : List ℕ → CommandRefusal → Type 0) (texts : List (ℕ × List ℕ)) (number : ℕ) (refusal : ParseRefusal) : Type 0 where
   pub front : List (ℕ × List ℕ)
   pub text : List ℕ
   pub behind : List (ℕ × List ℕ)
@@ -51,13 +52,13 @@ IsFault (WrongLevel privilege) = Unit {0}
 IsFault NoMemoryForLine = ⊥
 
 -- the line with this number is the first that is refused, and is refused so
-pub record IsBadLine {Meaning : Type 0} (spelled : List ℕ → Meaning → Type 0) (refused : List ℕ → ParseRefusal → Type 0) (bytes : List ℕ) (number : ℕ) (refusal : ParseRefusal) : Type 0 where
+pub record IsBadLine {Meaning : Type 0} (spelled : List ℕ → Meaning → Type 0) (refused : List ℕ → CommandRefusal → Type 0) (bytes : List ℕ) (number : ℕ) (refusal : ParseRefusal) : Type 0 where
   pub within : IsWithinLimits bytes
   pub first : IsFirstRefused spelled refused (command_lines bytes) number refusal
   pub is_fault : IsFault refusal
 
 -- the bytes are refused so; want of memory says nothing of them
-abbrev pub IsRefused : {Meaning : Type 0} → (List ℕ → Meaning → Type 0) → (List ℕ → ParseRefusal → Type 0) → List ℕ → ScriptRefusal → Type 0
+abbrev pub IsRefused : {Meaning : Type 0} → (List ℕ → Meaning → Type 0) → (List ℕ → CommandRefusal → Type 0) → List ℕ → ScriptRefusal → Type 0
 IsRefused spelled refused bytes (BadLine number refusal) = IsBadLine spelled refused bytes number refusal
 IsRefused spelled refused bytes (Limit which number) = IsBeyond spelled bytes which number
 IsRefused spelled refused bytes NoMemory = Unit {0}

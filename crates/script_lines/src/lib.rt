@@ -15,5 +15,5 @@ mod tests;
 pub use commands::Commands;
 pub use lines::{Line, Lines};
 pub use read::{MOST_BYTES, MOST_LINES, MOST_SESSIONS, read_lines};
-pub use refusal::{ScriptRefusal, Which};
+pub use refusal::{CommandRefusal, ScriptRefusal, Which};
 pub use session_name::SessionName;

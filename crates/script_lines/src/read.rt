@@ -6,7 +6,7 @@ ghost use Rattle.script_lines.specs.Adding.{refusal_of_line, IsNotSeated, IsNotT
 ghost use Rattle.script_lines.specs.Beginnings.{is_session_name};
 ghost use Rattle.script_lines.specs.Refusals.{IsAnswered, IsBadLine, IsBeyond, IsRefused};
 ghost use Rattle.script_lines.specs.Script.{seen, IsTaken, IsWithinLimits};
-ghost use Rattle.script_lines.specs.Spelling.{refusal_behind, IsLineRefused, IsOffsetBelow, Says, Spells};
+ghost use Rattle.script_lines.specs.Spelling.{refusal_behind, refusal_on_line, IsLineRefused, IsOffsetBelow, Says, Spells};
 ghost use Rattle.script_lines.specs.declared.lines.Line.{Line};
 ghost use Rattle.script_lines.specs.declared.refusal.ScriptRefusal.{ScriptRefusal};
 ghost use Rattle.script_lines.specs.declared.refusal.ScriptRefusal.TheVariants.{BadLine as BadLineOf, Limit as LimitOf, NoMemory as NoMemoryForScript};
@@ -16,7 +16,7 @@ use crate::beginning::split_line;
 use crate::commands::Commands;
 use crate::cut::{count_lines, first_line, is_without_command};
 use crate::lines::{Line, Lines};
-use crate::refusal::{ScriptRefusal, Which};
+use crate::refusal::{CommandRefusal, ScriptRefusal, Which};
 use crate::session_name::SessionName;
 use acl_items::Items;
 use grant_refusal::ParseRefusal;
@@ -178,7 +178,7 @@ fn read_line<C: Commands>(alloc: Global, text: &[u8]) -> Result<(&str, C::Comman
     };
     match C::read(alloc, command) {
         Ok(command) => Ok((name, command)),
-        Err(refusal) => Err(behind(name.len() as u32 + 2, refusal)),
+        Err(refusal) => Err(on_line(name.len() as u32 + 2, refusal)),
     }
 }
 
@@ -188,6 +188,17 @@ fn syntax_at(place: usize) -> ParseRefusal
 {
     ParseRefusal::Syntax {
         offset: place as u32,
+    }
+}
+
+// The refusal of a line whose command is refused behind so many bytes.
+fn on_line(bytes: u32, refusal: CommandRefusal) -> ParseRefusal
+    requires { IsOffsetBelow (2 ^ 32) (refusal_on_line bytes refusal) }
+    ensures { result ≡ refusal_on_line bytes refusal }
+{
+    match refusal {
+        CommandRefusal::Text(refusal) => behind(bytes, refusal),
+        CommandRefusal::Unbuilt => ParseRefusal::Syntax { offset: 0 },
     }
 }
 

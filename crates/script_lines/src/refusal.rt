@@ -6,6 +6,15 @@ use std::alloc::{AllocError, AllocFailed};
 use std::fmt;
 use thiserror::Error;
 
+/// Why the text of a command is none that is taken.
+#[derive(Clone, Copy, Debug, PartialEq, Eq)]
+pub enum CommandRefusal {
+    /// The text is refused so, and an offset counts from its first byte.
+    Text(ParseRefusal),
+    /// The text is a command of a form that is not built: its line is refused at the line's first byte.
+    Unbuilt,
+}
+
 /// Why a script was not read.
 #[derive(Clone, Copy, Debug, PartialEq, Eq, Error)]
 pub enum ScriptRefusal {

@@ -20,17 +20,20 @@ impl Commands for Words {
 
     ghost refused = { IsRefused };
 
-    fn read(_alloc: Global, text: &str) -> Result<u8, ParseRefusal> {
+    fn read(_alloc: Global, text: &str) -> Result<u8, CommandRefusal> {
         if text == "ok" {
             return Ok(1);
         }
         if text == "bad" {
-            return Err(ParseRefusal::Syntax { offset: 1 });
+            return Err(CommandRefusal::Text(ParseRefusal::Syntax { offset: 1 }));
         }
         if text == "long" {
-            return Err(ParseRefusal::Limit);
+            return Err(CommandRefusal::Text(ParseRefusal::Limit));
         }
-        Err(ParseRefusal::Syntax { offset: 0 })
+        if text == "soon" {
+            return Err(CommandRefusal::Unbuilt);
+        }
+        Err(CommandRefusal::Text(ParseRefusal::Syntax { offset: 0 }))
     }
 
     ghost one_meaning = { one_meaning };
@@ -61,7 +64,7 @@ fn told(alloc: Global, bytes: &[u8]) -> Result<String, Fail> {
 #[test]
 fn lines_are_cut_and_refused_at_their_bytes(rt: HostRuntime) -> Result<(), Fail> {
     let alloc = rt.alloc();
-    let cases: [(&[u8], &str); 24] = [
+    let cases: [(&[u8], &str); 25] = [
         (b"", "0"),
         (b"\n \t\n#\xff\n\r\n", "0"),
         (b"a> ok", "1, 1 a 1"),
@@ -94,6 +97,7 @@ fn lines_are_cut_and_refused_at_their_bytes(rt: HostRuntime) -> Result<(), Fail>
         (b"a> \n", "line 1: a fault of spelling stands at 3"),
         (b"abc> bad", "line 1: a fault of spelling stands at 6"),
         (b"a> long\nx", "line 1: the text is too long"),
+        (b"\nabc> soon\nx", "line 2: a fault of spelling stands at 0"),
         (
             b"a> ok\n\nb> bad\nb",
             "line 3: a fault of spelling stands at 4",

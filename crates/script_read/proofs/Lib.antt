@@ -1,0 +1,4 @@
+pub mod Refused
+pub mod Few
+pub mod Placed
+pub mod Seen
