@@ -1,7 +1,7 @@
 -- CREATE USER, account by account.
-use Rattle.std.proofs.Common.{◌≡◌, ◌∙◌, ap, sym, subst, ℕ, suc, ◌<◌, ◌≤◌, ◌+◌, Bool, true, false, cond, not, ◌&&◌, ◌||◌, List, [], ◌∷◌, ◌++◌, Option, Some, None, length, get_or, take, drop, map, Result, Ok, Err, refl, arith, IsTrue, is_some, length-append}
+use Rattle.std.proofs.Common.{◌≡◌, ◌∙◌, ap, sym, subst, ℕ, ◌<◌, ◌≤◌, ◌+◌, Bool, true, false, cond, not, ◌&&◌, ◌||◌, List, [], ◌∷◌, ◌++◌, Option, Some, None, length, get_or, take, drop, map, Result, Ok, Err, refl, arith, IsTrue, is_some, length-append}
 use Rattle.std.proofs.Math.Bool.{and-true, or-false, or-true}
-use Rattle.std.proofs.lemmas.Bool.{or_cases, or_parts}
+use Rattle.std.proofs.lemmas.Bool.{or_parts}
 use Rattle.std.proofs.lemmas.List.{take-append-drop}
 use Rattle.std.proofs.lemmas.List.Folds.{list_any-append}
 use Rattle.std.specs.List.{list_any}
@@ -11,8 +11,7 @@ use Rattle.acl_names.proofs.SameAuth.{equal_from_same_auth, same_auth_itself}
 use Rattle.acl_names.specs.AuthId.{same_auth}
 use Rattle.acl_names.specs.declared.auth.AuthId.{AuthId}
 use Rattle.acl_names.specs.declared.policy.Verifier.{Verifier}
-use Rattle.acl_model.proofs.SameRows.{equal_from_same_row}
-use Rattle.acl_model.specs.Accounts.{created, first_verifier, new_account, with_options, with_verifier}
+use Rattle.acl_model.specs.Accounts.{created, first_verifier, new_account}
 use Rattle.acl_model.specs.Counts.{HasMoreThan}
 use Rattle.acl_model.specs.Effects.{becomes, changed}
 use Rattle.acl_model.specs.Refusals.{first_fault, first_taken}
@@ -25,16 +24,16 @@ use Rattle.acl_rows.proofs.Distinct.{noted_has, noted_once, once_more}
 use Rattle.acl_rows.proofs.Members.{both_ways}
 use Rattle.acl_rows.proofs.Puts.{row_again}
 use Rattle.acl_rows.proofs.States.{same_state}
-use Rattle.acl_rows.specs.Changes.{data_with, with_data, with_row}
+use Rattle.acl_rows.specs.Changes.{with_data, with_row}
 use Rattle.acl_rows.specs.Uses.{noted}
 use Rattle.acl_stmt.specs.declared.options.AccountOptions.{AccountOptions}
 use Rattle.acl_stmt.specs.declared.refusal.Full.TheVariants as full
 use Rattle.acl_stmt.specs.declared.refusal.Refusal.{Refusal}
-use Rattle.acl_stmt.specs.declared.refusal.Refusal.TheVariants.{AccountExists, Closed, Denied, DiskFault, Full, HistoryFull, Loop, Mandatory, NoMemory, NoSuchAccount, NoSuchGrant, NotGranted}
+use Rattle.acl_stmt.specs.declared.refusal.Refusal.TheVariants.{AccountExists, Full, Mandatory, NoMemory, NoSuchAccount, NoSuchGrant}
 use Rattle.acl_stmt.specs.declared.statement.Statement.TheVariants.{CreateUser}
 use Rattle.acl_apply.proofs.Renaming.{dropped, taken}
 use Rattle.acl_apply.specs.Causes.{IsFault}
-use Rattle.acl_apply.specs.Created.{IsCreateCause, IsCrowded, IsNoRoom, created_data, with_account}
+use Rattle.acl_apply.specs.Created.{IsCreateCause, IsNoRoom, created_data, with_account}
 
 abbrev Named : Type 0
 Named = AuthId × Verifier

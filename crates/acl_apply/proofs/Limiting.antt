@@ -1,5 +1,5 @@
 -- The first limit that is exceeded.
-use Rattle.std.proofs.Common.{◌≡◌, List, [], ◌∷◌, ◌++◌, refl, subst, sym}
+use Rattle.std.proofs.Common.{◌≡◌, List, [], ◌∷◌, ◌++◌, subst, sym}
 use Rattle.acl_model.specs.Acceptance.{limits_in_order}
 use Rattle.acl_model.specs.Firsts.{HasNone, IsFirst}
 use Rattle.acl_stmt.specs.declared.refusal.Full.{Full as FullOf}

@@ -1,7 +1,7 @@
 -- From a part's fault to the refusal of the statement.
 use Rattle.std.proofs.Common.{◌≡◌, ◌∙◌, List, [], ◌∷◌, ◌++◌, Option, Some, None, Result, Ok, Err, refl, inl}
 use Rattle.std.specs.Result.{IfErr}
-use Rattle.std.proofs.Common.{Bool, true, false, ◌&&◌, ap, subst, sym}
+use Rattle.std.proofs.Common.{Bool, true, ◌&&◌, ap, subst, sym}
 use Rattle.std.proofs.lemmas.Bool.{and_parts}
 use Rattle.acl_names.specs.declared.auth.AuthId.{AuthId}
 use Rattle.acl_names.specs.declared.policy.Verifier.{Verifier}
@@ -15,14 +15,18 @@ use Rattle.acl_stmt.specs.Entries.{are_limits_in_order, is_complete, is_entry, m
 use Rattle.acl_stmt.specs.Privileges.{is_no_list}
 use Rattle.acl_stmt.specs.Statements.{is_statement}
 use Rattle.acl_stmt.specs.declared.limit.Limit.{Limit}
+use Rattle.acl_stmt.specs.declared.privileges.PrivList.{PrivList}
+use Rattle.acl_stmt.specs.declared.target.Target.{Target}
+use Rattle.revoke_effects.specs.Found.{IsGrantFault}
+use Rattle.acl_apply.specs.Revoked.{IsRevokeCause}
 use Rattle.acl_stmt.specs.declared.statement.Statement.{Statement}
-use Rattle.acl_stmt.specs.declared.statement.Statement.TheVariants.{CreateUser, RenameUser}
+use Rattle.acl_stmt.specs.declared.statement.Statement.TheVariants.{CreateUser, DropUser, Grant, RenameUser, Revoke, RevokeAll}
 use Rattle.acl_model.specs.Acceptance.{IsFeasible, IsRefused, revoked_accounts, role_pairs}
 use Rattle.acl_model.specs.Refusals.{first_fault}
 use Rattle.acl_model.specs.State.{State}
 use Rattle.acl_stmt.specs.declared.entry.Entry.{Entry}
 use Rattle.acl_stmt.specs.declared.refusal.Refusal.{Refusal}
-use Rattle.acl_stmt.specs.declared.refusal.Refusal.TheVariants.{AccountExists, Closed, Denied, DiskFault, Full, HistoryFull, Loop, Mandatory, NoMemory, NoSuchAccount, NoSuchGrant, NotGranted}
+use Rattle.acl_stmt.specs.declared.refusal.Refusal.TheVariants.{AccountExists, Full, Mandatory, NoMemory, NoSuchAccount, NoSuchGrant}
 use Rattle.acl_apply.specs.Causes.{IsCause, IsFault}
 
 pub if_err_weaker : {X E : Type 0} (result : Result X E) (P Q : E → Type 0) → ((e : E) → P e → Q e) → IfErr result P → IfErr result Q
@@ -77,6 +81,10 @@ pub after_creating : (entry : Entry) (exists : Bool) (accounts : List (AuthId ×
     → now ≡ changed [] (CreateUser exists accounts options) before → now ≡ after entry before
 after_creating entry exists accounts options before now is same = after_as entry (CreateUser exists accounts options) before now is refl same
 
+no_split : {X : Type 0} (earlier : List X) (x : X) (later : List X) → [] ≡ earlier ++ x ∷ later → ⊥
+no_split [] x later split = cc
+no_split (y ∷ earlier) x later split = cc
+
 feasible_as : (state : State) (statement other : Statement) → statement ≡ other → first_fault state other ≡ None → role_pairs other ≡ [] → revoked_accounts other ≡ [] → IsFeasible state statement
 feasible_as state statement other is none no_pairs no_accounts =
     rw is (record {
@@ -84,10 +92,6 @@ feasible_as state statement other is none no_pairs no_accounts =
       no_loop = λ earlier pair later split path. no_split earlier pair later (sym no_pairs ∙ split);
       no_lack = λ earlier a later split lack. no_split earlier a later (sym no_accounts ∙ split);
     })
-  where
-    no_split : {X : Type 0} (earlier : List X) (x : X) (later : List X) → [] ≡ earlier ++ x ∷ later → ⊥
-    no_split [] x later split = cc
-    no_split (y ∷ earlier) x later split = cc
 
 pub feasible_renaming : (state : State) (statement : Statement) (pairs : List (AuthId × AuthId)) → statement ≡ RenameUser pairs → first_fault state (RenameUser pairs) ≡ None → IsFeasible state statement
 feasible_renaming state statement pairs is none = feasible_as state statement (RenameUser pairs) is none refl refl
@@ -95,6 +99,56 @@ feasible_renaming state statement pairs is none = feasible_as state statement (R
 pub feasible_creating : (state : State) (statement : Statement) (exists : Bool) (accounts : List (AuthId × Verifier)) (options : AccountOptions) → statement ≡ CreateUser exists accounts options
     → first_fault state (CreateUser exists accounts options) ≡ None → IsFeasible state statement
 feasible_creating state statement exists accounts options is none = feasible_as state statement (CreateUser exists accounts options) is none refl refl
+
+-- what a drop leaves is what the entry leaves
+pub after_dropping : (entry : Entry) (exists : Bool) (accounts : List AuthId) (before now : State) → entry.statement ≡ DropUser exists accounts → now ≡ changed [] (DropUser exists accounts) before → now ≡ after entry before
+after_dropping entry exists accounts before now is same = after_as entry (DropUser exists accounts) before now is refl same
+
+pub feasible_dropping : (state : State) (statement : Statement) (exists : Bool) (accounts : List AuthId) → statement ≡ DropUser exists accounts → first_fault state (DropUser exists accounts) ≡ None → IsFeasible state statement
+feasible_dropping state statement exists accounts is none = feasible_as state statement (DropUser exists accounts) is none refl refl
+
+-- what a grant leaves is what the entry leaves
+pub after_granting : (entry : Entry) (privileges : PrivList) (target : Target) (accounts : List AuthId) (option : Bool) (before now : State) → entry.statement ≡ Grant privileges target accounts option
+    → now ≡ changed entry.limits (Grant privileges target accounts option) before → now ≡ after entry before
+unfolding after
+after_granting entry privileges target accounts option before now is same = same ∙ ap (λ s. changed entry.limits s before) (sym is)
+
+pub feasible_granting : (state : State) (statement : Statement) (privileges : PrivList) (target : Target) (accounts : List AuthId) (option : Bool) → statement ≡ Grant privileges target accounts option
+    → first_fault state (Grant privileges target accounts option) ≡ None → IsFeasible state statement
+feasible_granting state statement privileges target accounts option is none = feasible_as state statement (Grant privileges target accounts option) is none refl refl
+
+-- what a revoke leaves is what the entry leaves
+pub after_revoking : (entry : Entry) (privileges : PrivList) (target : Target) (accounts : List AuthId) (before now : State) → entry.statement ≡ Revoke privileges target accounts
+    → now ≡ changed [] (Revoke privileges target accounts) before → now ≡ after entry before
+after_revoking entry privileges target accounts before now is same = after_as entry (Revoke privileges target accounts) before now is refl same
+
+pub feasible_revoking : (state : State) (statement : Statement) (privileges : PrivList) (target : Target) (accounts : List AuthId) → statement ≡ Revoke privileges target accounts
+    → IsGrantFault state privileges target accounts None → IsFeasible state statement
+feasible_revoking state statement privileges target accounts is found =
+    rw is (record { no_fault = found.0; no_loop = λ earlier pair later split path. no_split earlier pair later split; no_lack = found.1 })
+
+-- what a revoke of all leaves is what the entry leaves
+pub after_revoking_all : (entry : Entry) (accounts : List AuthId) (before now : State) → entry.statement ≡ RevokeAll accounts → now ≡ changed [] (RevokeAll accounts) before → now ≡ after entry before
+after_revoking_all entry accounts before now is same = after_as entry (RevokeAll accounts) before now is refl same
+
+pub feasible_revoking_all : (state : State) (statement : Statement) (accounts : List AuthId) → statement ≡ RevokeAll accounts → first_fault state (RevokeAll accounts) ≡ None → IsFeasible state statement
+feasible_revoking_all state statement accounts is none = feasible_as state statement (RevokeAll accounts) is none refl refl
+
+-- an entry's statement keeps the rules of statements
+pub statement_of : (entry : Entry) (statement : Statement) → entry.statement ≡ statement → is_statement statement ≡ true
+unfolding is_entry
+statement_of entry statement is =
+    let legal : is_entry entry.limits statement ≡ true = subst (λ (s : Statement). is_entry entry.limits s ≡ true) is entry.legal in
+    let three = (and_parts (is_statement statement && is_complete statement && are_limits_in_order entry.limits) (may_have_limits entry.limits statement) legal).0 in
+    (and_parts (is_statement statement) (is_complete statement) (and_parts (is_statement statement && is_complete statement) (are_limits_in_order entry.limits) three).0).0
+
+-- what refuses a revoke refuses the entry
+pub revoke_refused : (state : State) (entry : Entry) (privileges : PrivList) (target : Target) (accounts : List AuthId) → entry.statement ≡ Revoke privileges target accounts
+    → (e : Refusal) → IsRevokeCause state privileges target accounts e → IsCause (IsRefused state entry) e
+revoke_refused state entry privileges target accounts is NoMemory cause = tt
+revoke_refused state entry privileges target accounts is (NoSuchAccount a) cause = ap (first_fault state) is ∙ cause
+revoke_refused state entry privileges target accounts is (NoSuchGrant a) cause = rw is cause
+revoke_refused state entry privileges target accounts is _ cause = absurd cause
 
 -- what refuses a creation refuses the entry
 pub creation_refused : (state : State) (entry : Entry) (exists : Bool) (accounts : List (AuthId × Verifier)) (options : AccountOptions) → entry.statement ≡ CreateUser exists accounts options

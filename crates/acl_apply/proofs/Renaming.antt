@@ -4,15 +4,14 @@ use Rattle.std.proofs.Math.Bool.{and-true}
 use Rattle.std.proofs.Math.Seq.{drop-cons}
 use Rattle.std.proofs.lemmas.List.{take_more}
 use Rattle.std.specs.List.{find}
-use Rattle.std.specs.Option.{option_and_then, option_map, option_or}
+use Rattle.std.specs.Option.{option_and_then, option_map}
 use Rattle.acl_names.specs.AuthId.{same_auth}
 use Rattle.acl_names.specs.declared.auth.AuthId.{AuthId}
 use Rattle.acl_model.specs.Accounts.{data_of_old}
-use Rattle.acl_model.specs.Effects.{becomes, changed, stood_before}
+use Rattle.acl_model.specs.Effects.{becomes, changed}
 use Rattle.acl_model.specs.Refusals.{first_fault, no_renaming}
 use Rattle.acl_model.specs.Renames.{before_pair, name_before, one_name, row_before, then_before, two_names}
 use Rattle.acl_model.specs.State.{State, is_mandatory, stands}
-use Rattle.acl_model.specs.declared.account_data.AccountData.{AccountData}
 use Rattle.acl_model.specs.declared.row.Row.{Row}
 use Rattle.acl_model.specs.declared.row.Row.TheVariants.{Account, Global, Dynamic, DynamicGrant, Schema, Table, Column, Function, Procedure, Edge, Admin, Default, Restriction}
 use Rattle.acl_rows.proofs.States.{same_state}

@@ -5,13 +5,11 @@ use Rattle.acl_names.specs.declared.auth.AuthId.{AuthId}
 use Rattle.acl_names.specs.declared.policy.Verifier.{Verifier}
 use Rattle.acl_model.specs.Accounts.{new_account, with_options, with_verifier}
 use Rattle.acl_model.specs.Counts.{HasMoreThan}
-use Rattle.acl_model.specs.Refusals.{first_fault}
 use Rattle.acl_model.specs.State.{State, stands}
 use Rattle.acl_model.specs.declared.account_data.AccountData.{AccountData}
 use Rattle.acl_model.specs.declared.row.Row.TheVariants.{Account}
 use Rattle.acl_rows.specs.Changes.{with_data, with_row}
 use Rattle.acl_stmt.specs.declared.options.AccountOptions.{AccountOptions}
-use Rattle.acl_stmt.specs.declared.refusal.Full.{Full as FullOf}
 use Rattle.acl_stmt.specs.declared.refusal.Full.TheVariants as full
 use Rattle.acl_stmt.specs.declared.refusal.Refusal.{Refusal}
 use Rattle.acl_stmt.specs.declared.refusal.Refusal.TheVariants.{AccountExists, Full, NoMemory}

@@ -3,3 +3,4 @@ pub mod Built
 pub mod Causes
 pub mod Created
 pub mod Renamed
+pub mod Revoked

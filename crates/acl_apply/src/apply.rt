@@ -7,10 +7,14 @@ ghost use Rattle.acl_apply.specs.Built.{is_built};
 ghost use Rattle.acl_apply.specs.Causes.{IsCause};
 
 use crate::create::create_users;
+use crate::drops::drop_users;
+use crate::grant::grant_privileges;
 use crate::limits::within_limits;
 use crate::rename::rename_users;
+use crate::revoke::{revoke_all, revoke_privileges};
 use acl_rows::Rows;
 use acl_stmt::{Entry, Refusal, Statement};
+use grant_effects::GrantParts;
 use std::alloc::Global;
 
 /// A statement that was tried and may be carried out.
@@ -54,7 +58,31 @@ fn rows_after(alloc: Global, before: &Rows, entry: &Entry) -> Result<Rows, Refus
             accounts,
             options,
         } => create_users(alloc, before, *if_not_exists, accounts.as_slice(), options),
+        Statement::DropUser {
+            if_exists,
+            accounts,
+        } => drop_users(alloc, before, *if_exists, accounts.as_slice()),
         Statement::RenameUser { pairs } => rename_users(alloc, before, pairs.as_slice()),
+        Statement::Grant {
+            privileges,
+            target,
+            accounts,
+            with_grant_option,
+        } => {
+            let grant = GrantParts {
+                privileges,
+                target,
+                accounts: accounts.as_slice(),
+                with_grant_option: *with_grant_option,
+            };
+            grant_privileges(alloc, before, entry.limits.as_slice(), &grant)
+        }
+        Statement::Revoke {
+            privileges,
+            target,
+            accounts,
+        } => revoke_privileges(alloc, before, privileges, target, accounts.as_slice()),
+        Statement::RevokeAll { accounts } => revoke_all(alloc, before, accounts.as_slice()),
         _ => unreachable!(),
     }
 }

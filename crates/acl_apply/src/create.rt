@@ -1,23 +1,16 @@
 //! CREATE USER.
-ghost use Rattle.std.specs.Prelude.{◌≡◌, ◌||◌, [], false, None, IfErr, IfOk, IsTrue, OnOk, OnErr, map};
-ghost use Rattle.std.specs.Bool.{MatchBool};
+ghost use Rattle.std.specs.Prelude.{◌≡◌, ◌||◌, [], false, None, IfErr, IfOk, OnOk, map};
 ghost use Rattle.std.specs.Option.{option_copied, option_map};
-ghost use Rattle.acl_names.specs.AuthId.{same_auth};
-ghost use Rattle.acl_model.specs.Counts.{HasMoreThan};
 ghost use Rattle.acl_model.specs.Effects.{changed};
 ghost use Rattle.acl_model.specs.Refusals.{first_fault, first_taken};
-ghost use Rattle.acl_model.specs.Rows.{lists};
 ghost use Rattle.acl_model.specs.State.{stands};
-ghost use Rattle.acl_model.specs.declared.row.Row.TheVariants.{Account as AccountRow};
-ghost use Rattle.acl_rows.specs.Changes.{with_data, with_row};
-ghost use Rattle.acl_rows.specs.Conditions.{HasRoom};
 ghost use Rattle.acl_rows.specs.Tables.{state_of};
 ghost use Rattle.acl_stmt.specs.declared.statement.Statement.TheVariants.{CreateUser};
 ghost use Rattle.acl_stmt.specs.declared.refusal.Refusal.TheVariants.{AccountExists};
 ghost use Rattle.acl_apply.specs.Causes.{IsFault};
 ghost use Rattle.acl_apply.specs.Created.{IsCreateCause, IsNoRoom, created_data, with_account};
 
-use crate::rename::stands;
+use crate::accounts::{is_among, stands};
 use acl_names::{AuthId, LockTime, Policy, Verifier};
 use acl_rows::{AccountData, Row, Rows};
 use acl_stmt::{AccountOptions, Full, Refusal};
@@ -119,12 +112,6 @@ fn names_of(alloc: Global, accounts: &[(AuthId, Verifier)]) -> Result<Vec<AuthId
         names.push(pair.0.copy(alloc)?)?;
     }
     Ok(names)
-}
-
-fn is_among(names: &[AuthId], name: &AuthId) -> bool
-    ensures { result ≡ lists names.now name.now }
-{
-    names.iter().any(|other| name.is(other))
 }
 
 // The first account that stands, or that was named before it.

@@ -2,10 +2,8 @@
 ghost use Rattle.std.specs.Prelude.{◌≡◌, [], None, IfErr, IfOk, OnOk};
 ghost use Rattle.std.specs.List.{find};
 ghost use Rattle.std.specs.Option.{option_copied, option_map};
-ghost use Rattle.acl_names.specs.AuthId.{same_auth};
 ghost use Rattle.acl_model.specs.Effects.{changed};
 ghost use Rattle.acl_model.specs.Refusals.{first_fault};
-ghost use Rattle.acl_model.specs.Rows.{lists};
 ghost use Rattle.acl_model.specs.State.{is_mandatory, stands};
 ghost use Rattle.acl_rows.specs.Changes.{renamed};
 ghost use Rattle.acl_rows.specs.Tables.{state_of};
@@ -13,6 +11,7 @@ ghost use Rattle.acl_stmt.specs.declared.statement.Statement.TheVariants.{Rename
 ghost use Rattle.acl_apply.specs.Causes.{IsFault};
 ghost use Rattle.acl_apply.specs.Renamed.{pair_fault};
 
+use crate::accounts::{is_mandatory, stands};
 use acl_names::AuthId;
 use acl_rows::{Row, Rows};
 use acl_stmt::Refusal;
@@ -44,12 +43,6 @@ pub(crate) fn rename_users(
     }
 }
 
-pub(crate) fn stands(rows: &Rows, account: &AuthId) -> bool
-    ensures { result ≡ stands (state_of rows.now) account.now }
-{
-    rows.account(account).is_some()
-}
-
 fn rename_user(alloc: Global, rows: &mut Rows, old: &AuthId, new: &AuthId) -> Result<(), Refusal>
     ensures fault { OnOk result (pair_fault (stands (state_of rows.old)) old.now new.now ≡ None) }
     ensures ok { OnOk result (state_of rows.new ≡ renamed old.now new.now (state_of rows.old)) }
@@ -65,12 +58,6 @@ fn rename_user(alloc: Global, rows: &mut Rows, old: &AuthId, new: &AuthId) -> Re
     }
     rows.rename(alloc, old, account)
         .map_err(|_| Refusal::NoMemory)
-}
-
-fn is_mandatory(rows: &Rows, role: &AuthId) -> bool
-    ensures { result ≡ is_mandatory (state_of rows.now) role.now }
-{
-    rows.mandatory().iter().any(|name| role.is(name))
 }
 
 // The first old name that is mandatory.

@@ -5,6 +5,7 @@
 
 mod accounts;
 mod grants;
+mod matching;
 mod order;
 mod rows;
 mod uses;

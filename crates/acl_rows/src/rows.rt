@@ -9,6 +9,7 @@ ghost use Rattle.acl_model.specs.Counts.{HasMoreThan, IsExceeded};
 ghost use Rattle.acl_model.specs.Rows.{holder, lists, same_row, some_name};
 ghost use Rattle.acl_model.specs.State.{root as root_account};
 ghost use Rattle.acl_model.specs.declared.row.Row.{Row};
+ghost use Rattle.acl_model.specs.declared.row.Row.TheVariants.{Column as ColumnRow, Dynamic as DynamicRow, DynamicGrant as DynamicGrantRow, Function as FunctionRow, Global as GlobalRow, Procedure as ProcedureRow, Schema as SchemaRow, Table as TableRow};
 
 use crate::accounts::{
     add_account, copy_accounts, copy_names, find_data, has_account, remove_account, rename_account,
@@ -18,11 +19,15 @@ use crate::grants::{
     account_of, add_grant, add_own_row, copy_grants, grants_naming, grants_of, has_grant,
     remove_grant, rows_renamed,
 };
+use crate::matching::{
+    is_dynamic, is_dynamic_grant, is_global, is_on_column, is_on_function, is_on_procedure,
+    is_on_schema, is_on_table,
+};
 use crate::order::sort_rows;
 use crate::uses::{edges, objects, pairs, schemas};
 use acl_items::Items;
 use acl_model::{AccountData, Row};
-use acl_names::{AuthId, HostText, UserName};
+use acl_names::{AuthId, HostText, Ident, UserName};
 use acl_stmt::Full;
 use std::alloc::{AllocError, Global};
 use std::marker::Model;
@@ -108,6 +113,109 @@ impl Rows {
             Row::Account(account) => has_account(&self.accounts, account),
             _ => has_grant(&self.grants, row),
         }
+    }
+
+    /// Whether the account holds the static privilege on `*.*`.
+    #[tactic(auto, unfolding(crate::specs::Tables::state_of))]
+    pub fn holds_globally(&self, account: &AuthId, privilege: u8) -> bool
+        ensures { result ≡ (state_of self.now).rows (GlobalRow account.now privilege) }
+    {
+        self.grants
+            .iter()
+            .any(|row| is_global(row, account, privilege))
+    }
+
+    /// Whether the account holds the dynamic privilege.
+    #[tactic(auto, unfolding(crate::specs::Tables::state_of))]
+    pub fn holds_dynamic(&self, account: &AuthId, privilege: u8) -> bool
+        ensures { result ≡ (state_of self.now).rows (DynamicRow account.now privilege) }
+    {
+        self.grants
+            .iter()
+            .any(|row| is_dynamic(row, account, privilege))
+    }
+
+    /// Whether the account may grant the dynamic privilege.
+    #[tactic(auto, unfolding(crate::specs::Tables::state_of))]
+    pub fn may_grant_dynamic(&self, account: &AuthId, privilege: u8) -> bool
+        ensures { result ≡ (state_of self.now).rows (DynamicGrantRow account.now privilege) }
+    {
+        self.grants
+            .iter()
+            .any(|row| is_dynamic_grant(row, account, privilege))
+    }
+
+    /// Whether the account holds the static privilege on the schema.
+    #[tactic(auto, unfolding(crate::specs::Tables::state_of))]
+    pub fn holds_on_schema(&self, account: &AuthId, schema: &Ident, privilege: u8) -> bool
+        ensures { result ≡ (state_of self.now).rows (SchemaRow account.now schema.now privilege) }
+    {
+        self.grants
+            .iter()
+            .any(|row| is_on_schema(row, account, schema, privilege))
+    }
+
+    /// Whether the account holds the static privilege on the table itself, whatever it holds on columns of it.
+    #[tactic(auto, unfolding(crate::specs::Tables::state_of))]
+    pub fn holds_on_table(
+        &self,
+        account: &AuthId,
+        schema: &Ident,
+        table: &Ident,
+        privilege: u8,
+    ) -> bool
+        ensures { result ≡ (state_of self.now).rows
+            (TableRow account.now schema.now table.now privilege) }
+    {
+        self.grants
+            .iter()
+            .any(|row| is_on_table(row, account, schema, table, privilege))
+    }
+
+    /// Whether the account holds the static privilege on the column itself, whatever it holds on the table.
+    #[tactic(auto, unfolding(crate::specs::Tables::state_of))]
+    pub fn holds_on_column(
+        &self,
+        account: &AuthId,
+        schema: &Ident,
+        table: &Ident,
+        column: &Ident,
+        privilege: u8,
+    ) -> bool
+        ensures { result ≡ (state_of self.now).rows
+            (ColumnRow account.now schema.now table.now column.now privilege) }
+    {
+        self.grants.iter().any(|row| is_on_column(row, account, schema, table, column, privilege))
+    }
+
+    /// Whether the account holds the static privilege on the function.
+    #[tactic(auto, unfolding(crate::specs::Tables::state_of))]
+    pub fn holds_on_function(
+        &self,
+        account: &AuthId,
+        schema: &Ident,
+        name: &Ident,
+        privilege: u8,
+    ) -> bool
+        ensures { result ≡ (state_of self.now).rows
+            (FunctionRow account.now schema.now name.now privilege) }
+    {
+        self.grants.iter().any(|row| is_on_function(row, account, schema, name, privilege))
+    }
+
+    /// Whether the account holds the static privilege on the procedure.
+    #[tactic(auto, unfolding(crate::specs::Tables::state_of))]
+    pub fn holds_on_procedure(
+        &self,
+        account: &AuthId,
+        schema: &Ident,
+        name: &Ident,
+        privilege: u8,
+    ) -> bool
+        ensures { result ≡ (state_of self.now).rows
+            (ProcedureRow account.now schema.now name.now privilege) }
+    {
+        self.grants.iter().any(|row| is_on_procedure(row, account, schema, name, privilege))
     }
 
     /// What is known of an account; None where it does not stand.

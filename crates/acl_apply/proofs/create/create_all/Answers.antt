@@ -1,6 +1,6 @@
-use Rattle.std.proofs.Common.{◌≡◌, ◌∙◌, ◌<◌, ap, length, arith}
+use Rattle.std.proofs.Common.{◌∙◌, ◌<◌, ap, length, arith}
 use Rattle.std.proofs.lemmas.Result.{err_from_is_err_and}
-use Rattle.acl_rows.specs.Tables.{Tables, state_of}
+use Rattle.acl_rows.specs.Tables.{state_of}
 use Rattle.acl_apply.proofs.Creating.{created_crowd, created_none, created_step}
 use Rattle.acl_apply.specs.Created.{with_account}
 use Rattle.acl_apply.proofs.create.create_all.Goals as goal

@@ -4,8 +4,8 @@ use Rattle.acl_names.specs.declared.auth.AuthId.{AuthId}
 use Rattle.acl_stmt.specs.declared.refusal.Refusal.TheVariants.{Mandatory}
 use Rattle.std.proofs.lemmas.Result.{err_from_is_err_and}
 use Rattle.acl_model.specs.Refusals.{no_renaming}
-use Rattle.acl_model.specs.State.{State, stands}
-use Rattle.acl_rows.specs.Tables.{Tables, state_of}
+use Rattle.acl_model.specs.State.{stands}
+use Rattle.acl_rows.specs.Tables.{state_of}
 use Rattle.acl_apply.proofs.Refusing.{fault_of_part}
 use Rattle.acl_apply.proofs.Renaming.{renamed_none, renames_end, renames_fault, renames_step}
 use Rattle.acl_apply.proofs.rename.rename_users.Goals as goal

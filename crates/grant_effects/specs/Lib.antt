@@ -1,0 +1,5 @@
+pub mod Given
+pub mod Granted
+pub mod Legal
+pub mod Lists
+pub mod Taken

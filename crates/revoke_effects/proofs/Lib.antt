@@ -1,0 +1,7 @@
+pub mod Finding
+pub mod Firsts
+pub mod Giving
+pub mod Lawful
+pub mod Listing
+pub mod Named
+pub mod Taking
