@@ -1,0 +1,6 @@
+pub mod Agreement
+pub mod AllLists
+pub mod LimitLists
+pub mod Masks
+pub mod Needs
+pub mod ReadAt

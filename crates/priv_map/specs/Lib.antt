@@ -1,0 +1,5 @@
+pub mod Copies
+pub mod Denials
+pub mod MapState
+pub mod Readings
+pub mod Restricted
