@@ -1,7 +1,3 @@
-mod Cuts
-mod Readings
-mod ReportLemmas
-mod Runs
-mod Scripts
-mod SpelledLines
+mod Due
 mod StreamLemmas
+mod Taken

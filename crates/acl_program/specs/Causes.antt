@@ -4,13 +4,14 @@ use Rattle.acl_program.specs.declared.cause.Cause.{Cause}
 use Rattle.acl_program.specs.declared.cause.Cause.TheVariants.{Fine, Usage, BadScript, ReadFault, WriteFault, NoMemory, Limit}
 use Rattle.acl_program.specs.declared.input.InputFault.{InputFault}
 use Rattle.acl_program.specs.declared.input.InputFault.TheVariants.{Failed, TooLong, NoMemory as NoMemoryForInput}
-use Rattle.acl_program.specs.declared.report.Report.{Report}
-use Rattle.acl_program.specs.declared.script.ParseRefusal.{ParseRefusal}
-use Rattle.acl_program.specs.declared.script.ParseRefusal.TheVariants.{Syntax}
-use Rattle.acl_program.specs.declared.script.ScriptRefusal.{ScriptRefusal}
-use Rattle.acl_program.specs.declared.script.ScriptRefusal.TheVariants.{BadLine, Limit as LimitOfScript, NoMemory as NoMemoryForScript}
-use Rattle.acl_program.specs.declared.script.Which.{Which}
-use Rattle.acl_program.specs.declared.script.Which.TheVariants.{Bytes, Lines, Sessions}
+use Rattle.line_reports.specs.declared.report.Report.{Report}
+use Rattle.grant_refusal.specs.declared.ParseRefusal.{ParseRefusal}
+use Rattle.grant_refusal.specs.declared.ParseRefusal.TheVariants as parse
+use Rattle.priv_sets.specs.Privileges.{privilege_name}
+use Rattle.script_lines.specs.declared.refusal.ScriptRefusal.{ScriptRefusal}
+use Rattle.script_lines.specs.declared.refusal.ScriptRefusal.TheVariants.{BadLine, Limit as LimitOfScript, NoMemory as NoMemoryForScript}
+use Rattle.script_lines.specs.declared.refusal.Which.{Which}
+use Rattle.script_lines.specs.declared.refusal.Which.TheVariants.{Bytes, Lines, Sessions}
 
 -- the exit status
 abbrev pub status : Cause → ℕ
@@ -28,16 +29,18 @@ counted Bytes = codes "bytes"
 counted Lines = codes "lines"
 counted Sessions = codes "sessions"
 
--- where a line is refused
-abbrev pub offset_of : ParseRefusal → ℕ
-offset_of (Syntax offset) = offset
+-- why a line is refused
+abbrev pub refusal_text : ParseRefusal → List ℕ
+refusal_text parse.Limit = codes "too long"
+refusal_text (parse.Syntax offset) = codes "syntax at " ++ decimal offset
+refusal_text (parse.WrongLevel privilege) = codes "wrong level " ++ privilege_name privilege
+refusal_text parse.NoMemory = codes "no memory"
 
 -- the line on the error stream
 abbrev pub text_of_cause : Cause → List ℕ
 text_of_cause Fine = []
 text_of_cause Usage = codes "usage: acl step SCRIPT JOURNAL\n"
-text_of_cause (BadScript line refusal) =
-    codes "line " ++ (decimal line ++ (codes ": syntax at " ++ (decimal (offset_of refusal) ++ codes "\n")))
+text_of_cause (BadScript line refusal) = codes "line " ++ (decimal line ++ (codes ": " ++ (refusal_text refusal ++ codes "\n")))
 text_of_cause ReadFault = codes "read fault\n"
 text_of_cause WriteFault = codes "write fault\n"
 text_of_cause NoMemory = codes "no memory\n"

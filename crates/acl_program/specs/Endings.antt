@@ -1,18 +1,29 @@
 -- What an end of the program says of its words, its script and its devices.
 use Rattle.std.specs.Prelude.{◌≡◌, ◌⊎◌, ℕ, ◌≤◌, false, true, List, [], ◌++◌, Option, None, Some, IsSome}
 use Rattle.acl_ports.specs.Faults.{next_count}
-use Rattle.acl_program.specs.Refusals.{IsBadScript, IsBeyond, IsTaken}
+use Rattle.acl_program.specs.Scripts.{HasScript, IsBadScript, IsTooMuch}
 use Rattle.acl_program.specs.Streams.{IsCutBeyond, IsEndLeft, IsPrefixWritten}
 use Rattle.acl_program.specs.Words.{is_step}
 use Rattle.acl_program.specs.declared.cause.Cause.{Cause}
 use Rattle.acl_program.specs.declared.cause.Cause.TheVariants.{Fine, Usage, BadScript, ReadFault, WriteFault, NoMemory, Limit}
-use Rattle.acl_program.specs.declared.report.Report.{Report}
-use Rattle.acl_program.specs.declared.script.Which.TheVariants.{Bytes, Lines, Sessions}
+use Rattle.grant_refusal.specs.declared.ParseRefusal.{ParseRefusal}
+use Rattle.line_reports.specs.declared.report.Report.{Report}
+use Rattle.script_lines.specs.declared.refusal.Which.{Which}
+use Rattle.script_lines.specs.declared.refusal.Which.TheVariants.{Bytes, Lines, Sessions}
+
+-- this cause, unless a read failed or memory ran out before
+abbrev pub IsOrEarlier : Cause → Cause → Type 0
+IsOrEarlier cause wanted = (cause ≡ wanted) ⊎ ((cause ≡ ReadFault) ⊎ (cause ≡ NoMemory))
 
 -- a cause comes exactly where this holds, unless a read failed or memory ran out before
 pub record ComesExactly (cause wanted : Cause) (Holds : Type 0) : Type 0 where
   pub only : cause ≡ wanted → Holds
-  pub always : Holds → (cause ≡ wanted) ⊎ ((cause ≡ ReadFault) ⊎ (cause ≡ NoMemory))
+  pub always : Holds → IsOrEarlier cause wanted
+
+-- bytes that are no script are told, where the words ask for a run
+pub record IsDue (words : List (List ℕ)) (bytes : List ℕ) (cause : Cause) : Type 0 where
+  pub bad : (line : ℕ) (refusal : ParseRefusal) → is_step words ≡ true → IsBadScript bytes line refusal → IsOrEarlier cause (BadScript line refusal)
+  pub limit : (which : Which) (number : ℕ) → is_step words ≡ true → IsTooMuch bytes which number → IsOrEarlier cause (Limit which number)
 
 -- what the program has read of these bytes when it ends so, by what is left of them
 abbrev pub IsReadFor : Cause → List ℕ → Option (List ℕ) → Type 0
@@ -43,10 +54,21 @@ IsTold before text old_faults new_faults written =
 
 -- what the words and the bytes have to do with an end
 abbrev pub IsCausedBy : List (List ℕ) → List ℕ → Cause → Type 0
-IsCausedBy words bytes Fine = (is_step words ≡ true) × IsTaken bytes
+IsCausedBy words bytes Fine = (is_step words ≡ true) × HasScript bytes
 IsCausedBy words bytes Usage = is_step words ≡ false
 IsCausedBy words bytes (BadScript line refusal) = (is_step words ≡ true) × IsBadScript bytes line refusal
 IsCausedBy words bytes ReadFault = is_step words ≡ true
-IsCausedBy words bytes WriteFault = (is_step words ≡ true) × IsTaken bytes
+IsCausedBy words bytes WriteFault = (is_step words ≡ true) × HasScript bytes
 IsCausedBy words bytes NoMemory = is_step words ≡ true
-IsCausedBy words bytes (Limit which number) = (is_step words ≡ true) × IsBeyond bytes which number
+IsCausedBy words bytes (Limit which number) = (is_step words ≡ true) × IsTooMuch bytes which number
+
+-- what bytes within the limit have to do with an end, once they were read
+abbrev pub IsMade : List ℕ → Cause → Type 0
+IsMade bytes Fine = HasScript bytes
+IsMade bytes Usage = ⊥
+IsMade bytes (BadScript line refusal) = IsBadScript bytes line refusal
+IsMade bytes ReadFault = ⊥
+IsMade bytes WriteFault = ⊥
+IsMade bytes NoMemory = Unit {0}
+IsMade bytes (Limit Bytes number) = ⊥
+IsMade bytes (Limit which number) = IsTooMuch bytes which number

@@ -1,15 +1,6 @@
-pub mod Adding
-pub mod Answers
 pub mod Causes
-pub mod Effects
 pub mod Endings
-pub mod Refusals
 pub mod Rehearsal
-pub mod Reports
-pub mod Script
-pub mod Seats
-pub mod Sessions
-pub mod Spelling
+pub mod Scripts
 pub mod Streams
-pub mod Texts
 pub mod Words

@@ -1,13 +1,15 @@
 //! Why the program ended, with its status and its line on the error stream.
 ghost use Rattle.std.specs.Prelude.{◌≡◌, ◌++◌, Some, IfSome, OnErr, OnOk};
 ghost use Rattle.acl_ports.specs.Faults.{HasCause};
-ghost use Rattle.acl_program.specs.Causes.{cause_of_fault, cause_of_refusal, counted as counted_text, offset_of, status, text_of_cause};
+ghost use Rattle.acl_program.specs.Causes.{cause_of_fault, cause_of_refusal, counted as counted_text, refusal_text, status, text_of_cause};
 ghost use Rattle.acl_program.specs.Streams.{IsPrefixWritten};
+ghost use Rattle.acl_program.specs.declared.cause.Cause.TheVariants.{BadScript};
 
 use crate::input::{InputFault, MOST_BYTES};
 use crate::output::write_parts;
-use crate::script::{ParseRefusal, ScriptRefusal, Which};
 use acl_ports::{Failed, Sink};
+use grant_refusal::ParseRefusal;
+use script_read::{ScriptRefusal, Which};
 
 /// Why the program ended.
 #[derive(Clone, Copy, Debug, PartialEq, Eq)]
@@ -78,19 +80,7 @@ pub(crate) fn tell<E: Sink>(err: &mut E, cause: &Cause) -> Result<(), Failed>
     match *cause {
         Cause::Fine => write_parts(err, &[]),
         Cause::Usage => write_parts(err, &["usage: acl step SCRIPT JOURNAL\n"]),
-        Cause::BadScript { line, refusal } => {
-            let offset = offset_in(refusal);
-            let mut place = itoa::Buffer::new();
-            let mut number = itoa::Buffer::new();
-            let parts = [
-                "line ",
-                number.format(line),
-                ": syntax at ",
-                place.format(offset),
-                "\n",
-            ];
-            write_parts(err, &parts)
-        }
+        Cause::BadScript { line, refusal } => tell_bad_line(err, line, refusal),
         Cause::ReadFault => write_parts(err, &["read fault\n"]),
         Cause::WriteFault => write_parts(err, &["write fault\n"]),
         Cause::NoMemory => write_parts(err, &["no memory\n"]),
@@ -102,12 +92,30 @@ pub(crate) fn tell<E: Sink>(err: &mut E, cause: &Cause) -> Result<(), Failed>
     }
 }
 
-// The byte at which a line is no line any more.
-fn offset_in(refusal: ParseRefusal) -> u32
-    ensures { result ≡ offset_of refusal }
+fn tell_bad_line<E: Sink>(err: &mut E, line: u32, refusal: ParseRefusal) -> Result<(), Failed>
+    ensures ok { IfSome (E.written err.old) (λ before.
+        OnOk result (E.written err.new ≡ Some (before ++ text_of_cause (BadScript line refusal)))) }
+    ensures err { IfSome (E.written err.old) (λ before.
+        OnErr result (IsPrefixWritten before (text_of_cause (BadScript line refusal)) (E.written err.new))) }
+    ensures cause { HasCause (E.faults err.old) (E.faults err.new) result }
 {
-    let ParseRefusal::Syntax { offset } = refusal;
-    offset
+    let mut number = itoa::Buffer::new();
+    let line = number.format(line);
+    match refusal {
+        ParseRefusal::Limit => write_parts(err, &["line ", line, ": too long\n"]),
+        ParseRefusal::Syntax { offset } => {
+            let mut place = itoa::Buffer::new();
+            write_parts(
+                err,
+                &["line ", line, ": syntax at ", place.format(offset), "\n"],
+            )
+        }
+        ParseRefusal::WrongLevel { privilege } => {
+            let name = priv_sets::name(privilege);
+            write_parts(err, &["line ", line, ": wrong level ", name, "\n"])
+        }
+        ParseRefusal::NoMemory => write_parts(err, &["line ", line, ": no memory\n"]),
+    }
 }
 
 fn counted(which: Which) -> &'static str

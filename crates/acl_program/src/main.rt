@@ -1,24 +1,12 @@
 //! The program `acl`: rehearses a script of account statements and privilege checks, line by line.
 #![tactic(auto)]
 
-mod answer;
 mod cause;
-mod command;
-mod cut;
-mod desk;
-mod fault;
 mod input;
 mod output;
-mod read_command;
-mod report;
-mod run;
-mod script;
 mod serve;
-mod session_name;
-mod statement;
 #[cfg(test)]
 mod tests;
-mod text;
 mod words;
 
 use acl_ports::{MemoryDisk, StdSink, StdSource};

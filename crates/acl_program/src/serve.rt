@@ -1,27 +1,27 @@
 //! The program's one call: words and devices in, an end and what was written out.
-ghost use Rattle.std.specs.Prelude.{◌≡◌, ◌≢◌, ℕ, ◌<◌, ◌≤◌, ◌↔◌, ◌^◌, ◌++◌, false, true, [], Some, length, map, string_bytes, IfErr, IfOk, IfSome, IsSomeAnd};
+ghost use Rattle.std.specs.Prelude.{◌≡◌, ◌≢◌, ℕ, ◌<◌, ◌≤◌, ◌↔◌, ◌^◌, ◌++◌, List, false, true, [], Some, length, map, string_bytes, IfErr, IfOk, IfSome, IsSomeAnd, IsTrue};
 ghost use Rattle.std.specs.List.{All};
 ghost use Rattle.acl_ports.specs.Faults.{next_count};
 ghost use Rattle.acl_program.specs.Causes.{cause_so_far, status, text_of_cause};
-ghost use Rattle.acl_program.specs.Endings.{ComesExactly, HasReport, IsCausedBy, IsReadFor, IsTold};
-ghost use Rattle.acl_program.specs.Refusals.{IsBadScript, IsBeyond};
+ghost use Rattle.acl_program.specs.Endings.{ComesExactly, HasReport, IsCausedBy, IsDue, IsMade, IsReadFor, IsTold};
 ghost use Rattle.acl_program.specs.Rehearsal.{IsRehearsal, IsReport};
+ghost use Rattle.acl_program.specs.Scripts.{IsBadScript, IsTooMuch};
 ghost use Rattle.acl_program.specs.Streams.{IsPrefixWritten};
-ghost use Rattle.acl_program.specs.Texts.{text_of_report};
 ghost use Rattle.acl_program.specs.Words.{is_step as is_step_text};
 ghost use Rattle.acl_program.specs.declared.cause.Cause.TheVariants.{Fine, Usage, BadScript, ReadFault, WriteFault, Limit};
-ghost use Rattle.acl_program.specs.declared.script.ParseRefusal.{ParseRefusal};
-ghost use Rattle.acl_program.specs.declared.script.Which.{Which};
+ghost use Rattle.grant_refusal.specs.declared.ParseRefusal.{ParseRefusal};
+ghost use Rattle.line_reports.specs.Texts.{text_of_report};
+ghost use Rattle.script_lines.specs.declared.refusal.Which.{Which};
+ghost use Rattle.script_run.specs.Forms.{is_built, keeps_rules};
 
 use crate::cause::{Cause, cause_of_input, cause_of_script, status_of, tell};
 use crate::input::read_all;
 use crate::output::write_all;
-use crate::report::{Report, report_of};
-use crate::run::run_lines;
-use crate::script::{Script, read_script};
-use crate::text::report_text;
 use crate::words::is_step;
 use acl_ports::{Disk, Sink, Source};
+use line_reports::{Report, report_of, report_text};
+use script_read::{Script, read_script_of};
+use script_run::{BuiltForms, run_lines};
 use std::alloc::{AllocError, Global};
 
 /// How a run of the program ended.
@@ -66,7 +66,7 @@ pub fn serve<S: Source, K: Sink, E: Sink, D: Disk>(
         ((is_step_text (map string_bytes words.now) ≡ true) × IsBadScript bytes line refusal)) }
     ensures limit { IfSome (S.left script.old) (λ bytes. (which : Which) (number : ℕ) →
         ComesExactly result.cause (Limit which number)
-        ((is_step_text (map string_bytes words.now) ≡ true) × IsBeyond bytes which number)) }
+        ((is_step_text (map string_bytes words.now) ≡ true) × IsTooMuch bytes which number)) }
 
     // Status 4 and 5.
     ensures read_fault { result.cause ≡ ReadFault → next_count (S.faults script.old) ≤ S.faults script.new }
@@ -125,6 +125,8 @@ fn rehearse<S: Source>(alloc: Global, words: &[String], source: &mut S) -> Resul
     ensures usage { (cause_so_far result ≡ Usage) ↔ (is_step_text (map string_bytes words.now) ≡ false) }
     ensures cause { IfSome (S.left source.old) (λ bytes.
         IsCausedBy (map string_bytes words.now) bytes (cause_so_far result)) }
+    ensures due { IfSome (S.left source.old) (λ bytes.
+        IsDue (map string_bytes words.now) bytes (cause_so_far result)) }
     ensures fault { cause_so_far result ≡ ReadFault → next_count (S.faults source.old) ≤ S.faults source.new }
     ensures read { IfSome (S.left source.old) (λ bytes.
         IsReadFor (cause_so_far result) bytes (S.left source.new)) }
@@ -135,18 +137,37 @@ fn rehearse<S: Source>(alloc: Global, words: &[String], source: &mut S) -> Resul
     if !is_step(words) {
         return Err(Cause::Usage);
     }
-    let bytes = read_all(alloc, source).map_err(cause_of_input)?;
-    let script = read_script(alloc, &bytes).map_err(cause_of_script)?;
-    run_script(alloc, script).map_err(|_| Cause::NoMemory)
+    match read_all(alloc, source) {
+        Ok(bytes) => rehearse_bytes(alloc, &bytes),
+        Err(fault) => Err(cause_of_input(fault)),
+    }
+}
+
+// Runs the lines of the script that the bytes are.
+fn rehearse_bytes(alloc: Global, bytes: &[u8]) -> Result<Report, Cause>
+    requires { length bytes.now ≤ 16777216 }
+    ensures made { IsMade bytes.now (cause_so_far result) }
+    ensures due { (words : List (List ℕ)) → IsDue words bytes.now (cause_so_far result) }
+    ensures report { IfOk result (IsRehearsal bytes.now) }
+    ensures err { IfErr result (λ cause. cause ≢ Fine) }
+{
+    match read_script_of::<BuiltForms>(alloc, bytes) {
+        Ok(script) => match run_script(alloc, script) {
+            Ok(report) => Ok(report),
+            Err(_) => Err(Cause::NoMemory),
+        },
+        Err(refusal) => Err(cause_of_script(refusal)),
+    }
 }
 
 // Runs the lines of a script, and tells what they were answered.
 fn run_script(alloc: Global, script: Script) -> Result<Report, AllocError>
-    requires seated { All (λ line. line.session < length script.sessions.items) script.lines.items }
-    requires count { length script.lines.items < 2 ^ 32 }
-    ensures { IfOk result (IsReport script.sessions.items script.lines.items) }
+    requires seated { All (λ line. line.session < length script.sessions) script.lines }
+    requires count { length script.lines < 2 ^ 32 }
+    requires built { All (λ line. IsTrue (is_built line.command)) script.lines }
+    requires rules { All (λ line. IsTrue (keeps_rules line.command)) script.lines }
+    ensures { IfOk result (IsReport script.sessions script.lines) }
 {
-    let Script { sessions, lines } = script;
-    let run = run_lines(alloc, sessions.len(), &lines)?;
-    report_of(alloc, sessions, &lines, run.answers, run.accepted)
+    let run = run_lines(alloc, script.sessions.len(), script.lines.as_slice())?;
+    report_of(alloc, script.sessions, run.answers, run.accepted)
 }

@@ -51,7 +51,7 @@ struct Rehearsed {
     printed: &'static str,
 }
 
-static REHEARSED: [Rehearsed; 6] = [
+static REHEARSED: [Rehearsed; 10] = [
     Rehearsed {
         script: "",
         printed: "history 0\n",
@@ -143,6 +143,148 @@ a:6 allowed
 history 2
 ",
     },
+    // Names that change places, and an account that is named twice.
+    Rehearsed {
+        script: "a> CONNECT root FROM LOCAL
+a> CREATE USER a, b;
+a> GRANT SELECT ON s.* TO a
+a> rename user a TO c, b TO a
+a> RENAME USER c TO a
+a> CREATE USER x, x
+a> CREATE USER IF NOT EXISTS x, x
+a> DROP USER y
+a> DROP USER IF EXISTS x, y
+b> CONNECT c FROM LOCAL
+b> CHECK SELECT ON s.t
+b> CONNECT a FROM LOCAL
+b> CHECK SELECT ON s.t
+b> DISCONNECT
+b> DISCONNECT
+",
+        printed: "a:1 connected `root`@`localhost`
+a:2 done 1
+a:3 done 2
+a:4 done 3
+a:5 refused account exists `a`@`%`
+a:6 refused account exists `x`@`%`
+a:7 done 4
+a:8 refused no such account `y`@`%`
+a:9 done 5
+b:10 connected `c`@`%`
+b:11 allowed
+b:12 connected `a`@`%`
+b:13 denied SELECT ON `s`.`t`
+b:14 bye
+b:15 refused not connected
+history 5
+",
+    },
+    // What is refused changes nothing, for none of its accounts. Carriage returns, comments and blank lines.
+    Rehearsed {
+        script: "# root\r
+a> CONNECT root FROM LOCAL\r
+\t \r
+a> CREATE USER u1\r
+a> REVOKE SELECT ON s.* FROM u1\r
+a> REVOKE SELECT ON s.t FROM u1\r
+a> GRANT SELECT ON *.* TO u1, nobody\r
+b> CONNECT u1 FROM LOCAL\r
+b> CHECK SELECT ON *.*\r
+a> REVOKE ALL PRIVILEGES, GRANT OPTION FROM u1\r
+a> DROP USER root@localhost\r
+a> CHECK EXECUTE ON FUNCTION s.f\r
+a> CREATE USER u2\r
+",
+        printed: "a:2 connected `root`@`localhost`
+a:4 done 1
+a:5 refused no such grant for `u1`@`%`
+a:6 refused no such grant for `u1`@`%`
+a:7 refused no such account `nobody`@`%`
+a:10 done 2
+a:11 done 3
+a:12 allowed
+a:13 done 4
+b:8 connected `u1`@`%`
+b:9 denied SELECT ON *.*
+history 4
+",
+    },
+    // What a session has read when: at CONNECT, at USE and at each check.
+    Rehearsed {
+        script: "a> CONNECT root FROM LOCAL
+a> CREATE USER u1
+b> CONNECT u1 FROM LOCAL
+b> USE shop
+a> GRANT UPDATE ON shop.* TO u1
+a> GRANT UPDATE ON depot.* TO u1
+b> CHECK UPDATE ON shop.t
+b> CHECK UPDATE ON depot.t
+b> USE shop
+b> CHECK UPDATE ON shop.t
+a> GRANT SELECT (a, c) ON s.t TO u1
+b> CHECK SELECT (a, b, c) ON s.t
+b> CHECK SELECT ON s.t
+b> CHECK SELECT (c) ON s.t
+a> DROP USER u1
+b> CHECK SELECT (c) ON s.t
+b> CHECK UPDATE ON shop.t
+b> CHECK UPDATE ON depot.t
+",
+        printed: "a:1 connected `root`@`localhost`
+a:2 done 1
+a:5 done 2
+a:6 done 3
+a:11 done 4
+a:15 done 5
+b:3 connected `u1`@`%`
+b:4 schema `shop`
+b:7 denied UPDATE ON `shop`.`t`
+b:8 allowed
+b:9 schema `shop`
+b:10 allowed
+b:12 denied SELECT (`b`) ON `s`.`t`
+b:13 denied SELECT ON `s`.`t`
+b:14 allowed
+b:16 denied SELECT (`c`) ON `s`.`t`
+b:17 allowed
+b:18 denied UPDATE ON `depot`.`t`
+history 5
+",
+    },
+    // Where restrictions come and go.
+    Rehearsed {
+        script: "root> CONNECT root FROM LOCAL
+root> CREATE USER u1
+root> GRANT SELECT, INSERT, DELETE ON *.* TO u1
+root> REVOKE INSERT, DELETE ON world.* FROM u1
+u1> CONNECT u1 FROM LOCAL
+u1> CHECK SELECT, INSERT ON world.city
+u1> CHECK INSERT ON moon.t
+root> GRANT DELETE ON world.* TO u1
+u1> CONNECT u1 FROM LOCAL
+u1> CHECK DELETE ON world.city
+root> REVOKE INSERT ON *.* FROM u1
+root> REVOKE INSERT ON world.* FROM u1
+root> GRANT INSERT ON world.* TO u1
+u1> CHECK INSERT ON world.city
+",
+        printed: "root:1 connected `root`@`localhost`
+root:2 done 1
+root:3 done 2
+root:4 done 3
+root:8 done 4
+root:11 done 5
+root:12 refused no such grant for `u1`@`%`
+root:13 done 6
+u1:5 connected `u1`@`%`
+u1:6 denied INSERT ON `world`.`city` restricted
+u1:7 allowed
+u1:9 connected `u1`@`%`
+u1:10 allowed
+u1:14 allowed
+history 6
+",
+    },
 ];
 
 #[test]
@@ -174,7 +316,7 @@ struct Refused {
     told: &'static str,
 }
 
-static REFUSED: [Refused; 9] = [
+static REFUSED: [Refused; 13] = [
     Refused {
         words: "run a",
         script: "",
@@ -195,9 +337,10 @@ static REFUSED: [Refused; 9] = [
         out: "",
         told: "usage: acl step SCRIPT JOURNAL\n",
     },
+    // A form that is not run yet.
     Refused {
         words: "step a b",
-        script: "s1> DROP USER u1",
+        script: "s1> CREATE ROLE r1",
         failing: NO_FAULT,
         status: 3,
         out: "",
@@ -205,19 +348,51 @@ static REFUSED: [Refused; 9] = [
     },
     Refused {
         words: "step a b",
-        script: "a> CONNECT root FROM LOCAL\n\n",
+        script: "\na> CONNECT root FROM LOCAL;\n",
         failing: NO_FAULT,
         status: 3,
         out: "",
-        told: "line 2: syntax at 0\n",
+        told: "line 2: syntax at 26\n",
     },
     Refused {
         words: "step a b",
-        script: "a> GRANT select ON *.* TO 'u1'@'%'\r\n",
+        script: "a> GRANT SELECT ON TO u1",
         failing: NO_FAULT,
         status: 3,
         out: "",
-        told: "line 1: syntax at 0\n",
+        told: "line 1: syntax at 19\n",
+    },
+    Refused {
+        words: "step a b",
+        script: "a> GRANT r1 TO u1 WITH GRANT OPTION",
+        failing: NO_FAULT,
+        status: 3,
+        out: "",
+        told: "line 1: syntax at 23\n",
+    },
+    Refused {
+        words: "step a b",
+        script: "a> CREATE USER 'u'@'198.51.100.0/255.0.255.0'",
+        failing: NO_FAULT,
+        status: 3,
+        out: "",
+        told: "line 1: syntax at 19\n",
+    },
+    Refused {
+        words: "step a b",
+        script: "a> USE `d",
+        failing: NO_FAULT,
+        status: 3,
+        out: "",
+        told: "line 1: syntax at 7\n",
+    },
+    Refused {
+        words: "step a b",
+        script: "a> GRANT FILE ON s.* TO u1",
+        failing: NO_FAULT,
+        status: 3,
+        out: "",
+        told: "line 1: wrong level FILE\n",
     },
     // The second read fails.
     Refused {
@@ -248,7 +423,7 @@ static REFUSED: [Refused; 9] = [
     // A fault of the error stream changes no status.
     Refused {
         words: "step a b",
-        script: "s1> DROP USER u1",
+        script: "s1> CREATE ROLE r1",
         failing: Failing {
             reads: &[],
             writes: &[],
@@ -349,14 +524,64 @@ fn what_is_refused_or_fails_ends_otherwise(rt: HostRuntime) -> Result<(), Fail> 
 
 #[test]
 fn lines_are_counted_before_they_are_read(rt: HostRuntime) -> Result<(), Fail> {
-    for (length, status, told) in [
-        (200_000, 3, "line 1: syntax at 0\n"),
-        (200_001, 9, "limit lines 200000\n"),
-    ] {
+    for (length, status, told) in [(200_000, 0, ""), (200_001, 9, "limit lines 200000\n")] {
         let script = vec![in rt.alloc(); b'\n'; length]?;
         let ended = run(rt.alloc(), "step a b", &script, &NO_FAULT)?;
         assert_eq!(rt; ended.err.written(), told.as_bytes());
         assert_eq!(rt; ended.status, status);
     }
+    Ok(())
+}
+
+#[test]
+fn each_front_is_a_script_or_none(rt: HostRuntime) -> Result<(), Fail> {
+    let script = "a> GRANT SELECT (a), INSERT ON s.`t` TO 'u'@'%' WITH GRANT OPTION".as_bytes();
+    for length in 0..=script.len() {
+        let ended = run(rt.alloc(), "step a b", &script[..length], &NO_FAULT)?;
+        assert!(rt; ended.status == 0 || ended.status == 3, "{length} bytes");
+        assert_eq!(rt; ended.disk.bytes(), b"as before".as_slice());
+    }
+    Ok(())
+}
+
+// A script that creates 4,095 accounts beside root, 455 on a line, and then one more.
+fn crowd(alloc: Global) -> Result<String, Fail> {
+    let mut script = String::from_str(alloc, "a> CONNECT root FROM LOCAL\n")?;
+    for line in 0..9u32 {
+        push_accounts(alloc, &mut script, line)?;
+    }
+    script.push_str("a> CREATE USER one_more\n")?;
+    Ok(script)
+}
+
+fn push_accounts(alloc: Global, script: &mut String, line: u32) -> Result<(), Fail> {
+    let first = format!(in alloc; "a> CREATE USER u{line}")?;
+    script.push_str(first.as_str())?;
+    for number in 0..454u32 {
+        let account = format!(in alloc; ", u{line}_{number}")?;
+        script.push_str(account.as_str())?;
+    }
+    script.push_str("\n")?;
+    Ok(())
+}
+
+#[test]
+fn one_account_too_many_is_refused(rt: HostRuntime) -> Result<(), Fail> {
+    let script = crowd(rt.alloc())?;
+    let ended = run(rt.alloc(), "step a b", script.as_bytes(), &NO_FAULT)?;
+    let wanted = "a:1 connected `root`@`localhost`
+a:2 done 1
+a:3 done 2
+a:4 done 3
+a:5 done 4
+a:6 done 5
+a:7 done 6
+a:8 done 7
+a:9 done 8
+a:10 done 9
+a:11 refused full accounts 4096
+history 9
+";
+    assert_eq!(rt; ended.out.written(), wanted.as_bytes());
     Ok(())
 }

@@ -11,13 +11,3 @@ returns-in-ReadFault-clause-err g c = rw c.in-ReadFault.is c.write_parts-in-Read
 
 pub returns-in-WriteFault-clause-ok : goal.returns-in-WriteFault-clause-ok
 returns-in-WriteFault-clause-ok g c = rw c.in-WriteFault.is c.write_parts-in-WriteFault.ensures.ok
-
-pub returns-in-BadScript-clause-ok : goal.returns-in-BadScript-clause-ok
-returns-in-BadScript-clause-ok g c =
-    rw c.in-BadScript.is
-    (rw (c.format.ensures.text, c.format-in-BadScript.ensures.text, c.offset_in-offset.ensures) at c.write_parts-in-BadScript.ensures.ok)
-
-pub returns-in-BadScript-clause-err : goal.returns-in-BadScript-clause-err
-returns-in-BadScript-clause-err g c =
-    rw c.in-BadScript.is
-    (rw (c.format.ensures.text, c.format-in-BadScript.ensures.text, c.offset_in-offset.ensures) at c.write_parts-in-BadScript.ensures.err)

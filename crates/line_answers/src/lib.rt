@@ -1,0 +1,11 @@
+//! The answers to the lines of a script, and how each is written.
+#![tactic(auto)]
+
+mod answer;
+mod quoted;
+mod refusal_text;
+#[cfg(test)]
+mod tests;
+mod text;
+
+pub use answer::{Answer, Denial, LineRefusal, LoginRefusal};

@@ -1,0 +1,4 @@
+pub mod Columns
+pub mod Rules
+pub mod Running
+pub mod Steps

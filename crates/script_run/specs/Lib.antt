@@ -1,0 +1,5 @@
+pub mod Calls
+pub mod Denials
+pub mod Forms
+pub mod Seats
+pub mod Told
