@@ -15,6 +15,3 @@ pub use client::Client;
 pub use host_pattern::{HostPattern, HostRefusal};
 pub use laws::{accounts_are_never_tied, addresses_are_spelled, refused_hosts_have_a_slash};
 pub use listed::{Listed, order};
-
-#[cfg(test)]
-mod tests;

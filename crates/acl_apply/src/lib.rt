@@ -14,6 +14,3 @@ mod rename;
 mod revoke;
 
 pub use apply::{Change, commit, prepare};
-
-#[cfg(test)]
-mod tests;

@@ -22,6 +22,3 @@ pub use laws::{SaneGrammar, lists_are_refused_once, reader_is_exact, whole_reade
 pub use refusal::{Refusal, Unexpected};
 pub use repeat::{list_of, many_of};
 pub use rule::{Rule, Starts, choice_of};
-
-#[cfg(test)]
-mod tests;

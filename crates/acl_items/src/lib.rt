@@ -6,6 +6,3 @@ mod items;
 
 pub use copied::Copied;
 pub use items::Items;
-
-#[cfg(test)]
-mod tests;

@@ -5,6 +5,3 @@
 mod laws;
 
 pub use laws::{first_unmet_need_is_denied, history_grows_by_one, statements_are_refused_once};
-
-#[cfg(test)]
-mod tests;

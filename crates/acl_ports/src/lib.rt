@@ -31,6 +31,3 @@ pub use std_source::StdSource;
 /// A device did not do what it was asked for. Its count of faults tells that this happened.
 #[derive(Clone, Copy, Debug, PartialEq, Eq)]
 pub struct Failed;
-
-#[cfg(test)]
-mod tests;

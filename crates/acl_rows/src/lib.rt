@@ -12,6 +12,3 @@ mod uses;
 
 pub use acl_model::{AccountData, Row};
 pub use rows::Rows;
-
-#[cfg(test)]
-mod tests;

@@ -24,6 +24,3 @@ pub use request::Request;
 pub use roles::{DefaultForm, RoleForm};
 pub use statement::Statement;
 pub use target::Target;
-
-#[cfg(test)]
-mod tests;

@@ -10,6 +10,3 @@ mod view;
 pub use logged::Logged;
 pub use seat::{CallerSeat, Note, Noted, Seated};
 pub use turn::Turn;
-
-#[cfg(test)]
-mod tests;

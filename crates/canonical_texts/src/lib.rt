@@ -17,6 +17,3 @@ mod users;
 
 pub use laws::{canonical_texts_are_tokens, written_strings_are_read};
 pub use statement::text_of;
-
-#[cfg(test)]
-mod tests;

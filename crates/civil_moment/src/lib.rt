@@ -97,6 +97,3 @@ fn civil_second(year: u16, month: u8, day: u8, hour: u8, minute: u8, second: u8)
     let clock = u32::from(hour) * 3600 + u32::from(minute) * 60 + u32::from(second);
     Some(i64::from(day) * 86_400 + i64::from(clock))
 }
-
-#[cfg(test)]
-mod tests;

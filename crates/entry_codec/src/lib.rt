@@ -17,8 +17,6 @@ ghost use Rattle.entry_codec.specs.ReadBack.{IsReadBack};
 use acl_stmt::Statement;
 use std::alloc::{AllocError, Global};
 
-#[cfg(test)]
-mod tests;
 
 /// The canonical text of `statement`, from which it is read back.
 ///

@@ -17,6 +17,3 @@ pub use given::rows_given;
 pub use laws::given_rows_are_legal;
 pub use parts::GrantParts;
 pub use taken::rows_taken;
-
-#[cfg(test)]
-mod tests;

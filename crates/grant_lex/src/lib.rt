@@ -16,6 +16,3 @@ pub use laws::{printed_tokens_are_read, texts_have_one_reading, values_are_meant
 pub use refusal::LexRefusal;
 pub use sorts::{Kind, Token};
 pub use value::value_of;
-
-#[cfg(test)]
-mod tests;

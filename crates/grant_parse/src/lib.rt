@@ -10,6 +10,3 @@ mod rules;
 pub use meaning::{request_from, statement_from};
 pub use parsing::{parse, parse_request};
 pub use rules::{PrivilegeRule, UserRule};
-
-#[cfg(test)]
-mod tests;

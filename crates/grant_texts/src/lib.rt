@@ -6,6 +6,3 @@ mod reading;
 
 pub use cutting::{TextTokens, cut};
 pub use reading::{read_text, read_text_either};
-
-#[cfg(test)]
-mod tests;

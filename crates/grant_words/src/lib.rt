@@ -17,6 +17,3 @@ pub use cut::lexemes;
 pub use lexeme::{Lexeme, TokenValue};
 pub use lists::{accounts, roles};
 pub use names::{Host, Identifier, RoleUser, User};
-
-#[cfg(test)]
-mod tests;

@@ -4,8 +4,6 @@
 mod answer;
 mod quoted;
 mod refusal_text;
-#[cfg(test)]
-mod tests;
 mod text;
 
 pub use answer::{Answer, Denial, LineRefusal, LoginRefusal};

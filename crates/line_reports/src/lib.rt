@@ -2,8 +2,6 @@
 #![tactic(auto)]
 
 mod report;
-#[cfg(test)]
-mod tests;
 mod text;
 
 pub use report::{LineAnswer, Report, SessionReport, report_of};

@@ -12,6 +12,3 @@ pub use laws::stamps_count_failures;
 pub use password::verifier;
 pub use stamp::{Stamp, reset};
 pub use tracking::{Tried, attempt};
-
-#[cfg(test)]
-mod tests;

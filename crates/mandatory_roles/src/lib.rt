@@ -8,6 +8,3 @@ mod runs;
 
 pub use laws::{roles_are_spelled, written_roles_are_read};
 pub use read::{ROLE_LIMIT, read_roles};
-
-#[cfg(test)]
-mod tests;

@@ -3,8 +3,6 @@
 
 mod count;
 mod merge;
-#[cfg(test)]
-mod tests;
 
 pub use count::count_with;
 pub use merge::{and_into, or_into};

@@ -24,6 +24,3 @@ pub use lowered::lowered_target;
 pub use refusal::LevelRefusal;
 pub use request::{Granted, granted_of, request_of};
 pub use schema::read_schema;
-
-#[cfg(test)]
-mod tests;

@@ -17,6 +17,3 @@ pub use held::Held;
 pub use map::{MapChange, PrivMap};
 pub use schema_held::SchemaHeld;
 pub use verdict::Verdict;
-
-#[cfg(test)]
-mod tests;

@@ -20,6 +20,3 @@ pub use plain::Plain;
 pub use privilege::{Privilege, by_name, name};
 pub use static_iter::StaticIter;
 pub use static_set::Static;
-
-#[cfg(test)]
-mod tests;

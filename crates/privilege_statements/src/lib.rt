@@ -13,6 +13,3 @@ mod targets;
 pub use laws::{columns_are_few, names_are_items};
 pub use rules::{PrivilegeStatement, RequestRule};
 pub use statement::RawStatement;
-
-#[cfg(test)]
-mod tests;

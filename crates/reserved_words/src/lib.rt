@@ -67,30 +67,3 @@ fn is_same_word(name: &str, word: &str) -> bool
 {
     name.eq_ignore_ascii_case(word)
 }
-
-#[cfg(test)]
-mod tests {
-    use super::*;
-    use std::process::Abort;
-    use std::test::Fail;
-
-    #[test]
-    fn tells_reserved_words_in_any_case(rt: HostRuntime) -> Result<(), Fail> {
-        let cases = [
-            ("ALL", true),
-            ("with", true),
-            ("pRoCeDuRe", true),
-            ("", false),
-            ("user", false),
-            ("persist", false),
-            ("t", false),
-            ("tos", false),
-            ("t\u{f6}", false),
-            ("option", false),
-        ];
-        for (word, expected) in cases {
-            assert_eq!(rt; is_reserved(word), expected, "at {word:?}");
-        }
-        Ok(())
-    }
-}

@@ -14,6 +14,3 @@ pub use found::first_without_grant;
 pub use given::rows_given;
 pub use laws::{given_rows_are_restrictions, revoke_all_gives_nothing, taken_rows_are_privileges};
 pub use taken::{all_rows_taken, rows_taken};
-
-#[cfg(test)]
-mod tests;

@@ -12,6 +12,3 @@ mod table;
 
 pub use graph::{Added, Graph};
 pub use node_set::{NODES, NodeSet};
-
-#[cfg(test)]
-mod tests;

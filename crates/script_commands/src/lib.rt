@@ -16,6 +16,3 @@ pub use command::{Connect, RawCommand};
 pub use laws::{commands_are_no_statements, one_option_is_read};
 pub use moment::{Timed, timed_connect};
 pub use rules::{CommandRule, ConnectRule};
-
-#[cfg(test)]
-mod tests;

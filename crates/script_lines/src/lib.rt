@@ -9,8 +9,6 @@ mod lines;
 mod read;
 mod refusal;
 mod session_name;
-#[cfg(test)]
-mod tests;
 
 pub use commands::Commands;
 pub use lines::{Line, Lines};

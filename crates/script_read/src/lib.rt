@@ -6,8 +6,6 @@ mod forms;
 mod meaning;
 mod reading;
 mod script;
-#[cfg(test)]
-mod tests;
 mod written;
 
 pub use command::Command;

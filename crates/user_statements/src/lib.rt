@@ -15,6 +15,3 @@ mod users;
 
 pub use setting::Setting;
 pub use statement::UserStatement;
-
-#[cfg(test)]
-mod tests;
