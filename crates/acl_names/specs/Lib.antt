@@ -1,4 +1,5 @@
 pub mod AuthId
+pub mod Limits
 pub mod Name
 pub mod Quoted
 pub mod Text
