@@ -3,3 +3,4 @@ pub mod Limits
 pub mod Name
 pub mod Quoted
 pub mod Text
+pub mod Verifiers
