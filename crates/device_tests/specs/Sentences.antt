@@ -1,4 +1,4 @@
--- A small grammar over bytes, to try the readers on.
+-- A small grammar over bytes, on which the readers are tried.
 use Rattle.std.specs.Prelude.{ℕ, ◌-◌, ◌≡◌, IsTrue, ◌&&◌, Bool, false, nat_eq, nat_le, List, [], ◌∷◌, ◌++◌, refl}
 use Rattle.std.proofs.Common.{arith, ap, sym, ◌∙◌}
 use Rattle.std.proofs.lemmas.Bool.Decides.{nat_tests}
