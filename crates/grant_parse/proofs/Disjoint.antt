@@ -25,7 +25,7 @@ use Rattle.privilege_statements.specs.PrivilegeItems.{column_names, item, maybe_
 use Rattle.privilege_statements.specs.PrivilegeNames.{alter_names, create_names, create_others, drop_names, dynamic_numbers, lone_numbers, other_name, replication_names, show_names, static_name}
 use Rattle.privilege_statements.specs.Statements.{grant, privilege_statement, privileges_on_target, revoke as revoke_privileges}
 use Rattle.privilege_statements.specs.declared.statement.RawStatement.{RawStatement}
-use Rattle.reserved_words.specs.Reserved.{reserved_words}
+use Rattle.grant_lex.specs.Reserved.{reserved_words}
 use Rattle.user_statements.specs.Statements.{grant_roles, maybe_privileges, on_grants, revoke, revoke_all, revoke_roles, user_statement}
 
 -- ON

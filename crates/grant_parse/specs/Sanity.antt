@@ -15,7 +15,7 @@ use Rattle.privilege_statements.specs.PrivilegeItems.{column_names, item, maybe_
 use Rattle.privilege_statements.specs.PrivilegeNames.{alter_names, create_names, create_others, drop_names, dynamic_numbers, lone_numbers, other_name, replication_names, show_names, static_name}
 use Rattle.privilege_statements.specs.Statements.{grant, privilege_statement, privileges_on_target, revoke as granted_revoke, with_grant_option}
 use Rattle.privilege_statements.specs.Targets.{behind_star, dotted, escaped_target, long_target, marked_target, schema_target, star_or_table, target}
-use Rattle.reserved_words.specs.Reserved.{reserved_words}
+use Rattle.grant_lex.specs.Reserved.{reserved_words}
 use Rattle.std.specs.Prelude.{refl}
 use Rattle.std.specs.Str.{chars}
 use Rattle.user_statements.specs.Flags.{if_exists, if_not_exists, with_admin_option}

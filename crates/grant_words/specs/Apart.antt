@@ -10,7 +10,7 @@ use Rattle.grant_lex.specs.declared.sorts.Kind.TheVariants.{Word, Quoted, Backqu
 use Rattle.grant_words.specs.Classes.{Class, is, is_identifier, is_one_of}
 use Rattle.grant_words.specs.Classes.Class.{keyword, mark, identifier, longer, valued}
 use Rattle.grant_words.specs.Classes.Sort.{name, any_name, string, plain_word}
-use Rattle.reserved_words.specs.Reserved.{is_reserved, reserved_words}
+use Rattle.grant_lex.specs.Reserved.{is_reserved, reserved_words}
 use Rattle.grant_words.specs.Syntax.{are_apart}
 use Rattle.grant_words.specs.declared.lexeme.Lexeme.{Lexeme}
 

@@ -8,7 +8,7 @@ use Rattle.grant_lex.specs.declared.sorts.Kind.TheVariants as kinds
 use Rattle.grant_words.specs.Classes.{Class, is, is_one_of}
 use Rattle.grant_words.specs.Classes.Class.{keyword, mark, identifier, longer, valued}
 use Rattle.grant_words.specs.Classes.Sort.{name, any_name, string, plain_word}
-use Rattle.reserved_words.specs.Reserved.{is_reserved}
+use Rattle.grant_lex.specs.Reserved.{is_reserved}
 use Rattle.grant_words.specs.declared.lexeme.Lexeme.{Lexeme}
 
 pub data Syntax : Type 0 → Type 1 where

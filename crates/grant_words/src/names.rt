@@ -10,8 +10,7 @@ use crate::Lexeme;
 use account_match::{HostPattern, HostRefusal};
 use acl_grammar::TokenClass;
 use acl_names::{HostText, Ident, NameRefusal, UserName};
-use grant_lex::Kind;
-use reserved_words::is_reserved;
+use grant_lex::{Kind, is_reserved};
 use std::alloc::{AllocError, Global};
 
 /// The user of an account, which may be empty.
