@@ -10,13 +10,13 @@ use Rattle.acl_stmt.specs.declared.statement.Statement.{Statement}
 use Rattle.acl_stmt.specs.declared.target.Target.{Target}
 use Rattle.grant_parse.specs.Statements.{privilege_rule, user_rule}
 use Rattle.grant_texts.proofs.Disjoint.{free_lacks, lacks, starts, starts_apart, within_is}
-use Rattle.grant_words.specs.Apart.{both_left, both_right, or_first, or_second}
+use Rattle.grant_words.proofs.Apart.{are_apart, both_left, both_right, or_first, or_second}
 use Rattle.grant_words.specs.Classes.{Class, is, word}
 use Rattle.grant_words.specs.Classes.Class.{keyword, mark}
 use Rattle.grant_words.specs.Lists.{comma, roles}
 use Rattle.grant_words.specs.Names.{at_host, ident, role, role_class}
-use Rattle.grant_words.specs.Sanity.{is_of_one, one_apart}
-use Rattle.grant_words.specs.Syntax.{are_apart, grammar_of}
+use Rattle.grant_words.proofs.Sanity.{is_of_one, one_apart}
+use Rattle.grant_words.specs.Syntax.{grammar_of}
 use Rattle.grant_words.specs.declared.lexeme.Lexeme.{Lexeme}
 use Rattle.priv_items.specs.declared.item.Named.{Named}
 use Rattle.priv_sets.specs.DynamicNames.{dynamic_names}

@@ -1,6 +1,6 @@
 -- One token ahead decides how each rule goes on.
 use Rattle.acl_grammar.specs.Reader.{Sane}
-use Rattle.grant_words.specs.Sanity.{sane}
+use Rattle.grant_words.proofs.Sanity.{sane}
 use Rattle.grant_words.specs.Syntax.{grammar_of}
 use Rattle.grant_parse.specs.Statements.{privilege_rule, semicolon, user_rule}
 use Rattle.account_match.specs.Form.{form_of}

@@ -140,7 +140,9 @@ fn is_name(token: &Lexeme) -> bool
     }
 }
 
-fn is_identifier_token(token: &Lexeme) -> bool
+/// Whether the token is written as an identifier: as a word that is not reserved, or between backquotes. How long it is
+/// is not asked.
+pub fn is_identifier_token(token: &Lexeme) -> bool
     ensures { result ≡ is_identifier_token token.now.kind token.now.value }
 {
     match token.kind {

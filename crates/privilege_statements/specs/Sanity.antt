@@ -6,8 +6,8 @@ use Rattle.acl_grammar.specs.Reader.{Sample, Sane}
 use Rattle.grant_words.specs.Classes.{is}
 use Rattle.grant_words.specs.Lists.{accounts}
 use Rattle.grant_words.specs.Names.{account, at_host, ident}
-use Rattle.grant_words.specs.Sanity.{sane}
-use Rattle.grant_words.specs.Syntax.{grammar_of, sample}
+use Rattle.grant_words.proofs.Sanity.{sample, sane}
+use Rattle.grant_words.specs.Syntax.{grammar_of}
 use Rattle.priv_sets.specs.DynamicNames.{dynamic_names}
 use Rattle.priv_sets.specs.PlainNames.{plain_names}
 use Rattle.grant_lex.specs.Reserved.{reserved_words}
