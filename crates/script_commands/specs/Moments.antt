@@ -1,5 +1,5 @@
 -- The option AT of a CONNECT: a word AT behind tokens that spell the CONNECT, and what follows the word.
-use Rattle.std.specs.Prelude.{◌≡◌, ◌++◌, ◌&&◌, ◌==◌, not, ℕ, Bool, IsTrue, List, ◌∷◌, Option, Some, None, Result, Ok, Err, length, drop, codes}
+use Rattle.std.specs.Prelude.{◌≡◌, ◌++◌, not, ℕ, Bool, IsTrue, List, ◌∷◌, Option, Some, None, Result, Ok, Err, length, drop, codes}
 use Rattle.acl_grammar.specs.Reader.{Reading, expected}
 use Rattle.acl_grammar.specs.Spelling.{spells}
 use Rattle.grant_lex.specs.Class.{class_of, is_blank}
