@@ -9,7 +9,7 @@ use Rattle.acl_names.specs.declared.auth.AuthId.{AuthId}
 use Rattle.acl_names.specs.declared.refusal.NameRefusal.{NameRefusal}
 use Rattle.grant_lex.specs.Value.{value_of}
 use Rattle.grant_lex.specs.Class.{is_blank}
-use Rattle.mandatory_roles.specs.Cutting.{Cut, Written, behind, host_at, host_behind, is_empty, name_at, past_name, with_host, written_at}
+use Rattle.mandatory_roles.specs.Cutting.{Cut, Written, past_mark, host_at, host_behind, is_empty, name_at, past_name, with_host, written_at}
 use Rattle.mandatory_roles.specs.Roles.{is_role_host, is_role_user, role_from, role_of}
 use Rattle.mandatory_roles.specs.Runs.{past_blanks, run_of}
 use Rattle.mandatory_roles.specs.Spelling.{AreBlanks, SpellsAccount, SpellsHost, SpellsName, SpellsRole}
@@ -71,7 +71,7 @@ module _ (text before name first : List ℕ) (blanks : AreBlanks before) (firsts
       place_found text before name first second blanks firsts (run_each is_blank bs) named (past_blanks bs) (host_at (past_blanks bs)) parts (host_found (past_blanks bs))
   at_test b bs false e whole = name_alone text before name first (b ∷ bs) whole blanks firsts named
 
-  behind_found : (rest : List ℕ) → text ≡ before ++ (name ++ (first ++ rest)) → IsWritten text (host_behind name rest (behind 64 rest))
+  behind_found : (rest : List ℕ) → text ≡ before ++ (name ++ (first ++ rest)) → IsWritten text (host_behind name rest (past_mark 64 rest))
   behind_found [] whole = name_alone text before name first [] whole blanks firsts named
   behind_found (b ∷ bs) whole = at_test b bs (eqb b 64) refl whole
 

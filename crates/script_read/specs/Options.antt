@@ -4,6 +4,7 @@ use Rattle.std.proofs.lemmas.List.{length-map, map-append}
 use Rattle.acl_grammar.proofs.Theorem.{exact}
 use Rattle.acl_grammar.specs.Reader.{expected, goes_on, read}
 use Rattle.grant_lex.proofs.Unique.{longest_same, reads_same}
+use Rattle.grant_lex.specs.Next.{IsBlank}
 use Rattle.grant_lex.specs.Token.{PastBlanks, Reads}
 use Rattle.grant_lex.specs.declared.refusal.LexRefusal.{LexRefusal}
 use Rattle.grant_lex.specs.declared.sorts.Token.{Token}
@@ -14,7 +15,7 @@ use Rattle.grant_words.specs.Syntax.{grammar_of}
 use Rattle.grant_words.specs.declared.lexeme.Lexeme.{Lexeme}
 use Rattle.std.specs.Prelude.{Option}
 use Rattle.script_commands.specs.Commands.{client, client_name, client_text, connect, connection, password}
-use Rattle.script_commands.specs.Moments.{HasMoment, IsBlank, IsMomentAt, at_word, left_behind, option_of}
+use Rattle.script_commands.specs.Moments.{HasMoment, IsMomentAt, at_word, left_behind, option_of}
 use Rattle.script_commands.specs.Sanity.{connect_sane}
 use Rattle.script_commands.specs.declared.command.Connect.{Connect}
 

@@ -15,7 +15,7 @@ use Rattle.grant_words.specs.Syntax.{grammar_of}
 use Rattle.grant_words.specs.declared.lexeme.Lexeme.{Lexeme}
 use Rattle.user_statements.proofs.Numbers.{same_number}
 use Rattle.grant_words.specs.Numbers.{number_of}
-use Rattle.user_statements.specs.Options.{is_option_number as is_number_text, lock, lock_time, number, number_class, options, options_of, setting}
+use Rattle.user_statements.specs.Options.{is_number_text, lock, lock_time, number, number_class, options, options_of, setting}
 use Rattle.user_statements.specs.declared.setting.Setting.{Setting}
 use Rattle.user_statements.specs.declared.setting.Setting.TheVariants.{Attempts, Lock, Locked}
 use Rattle.user_texts.proofs.Lists.{lexemes_append, repeated_append}
