@@ -5,12 +5,12 @@ use Rattle.std.proofs.lemmas.List.Folds.{list_all-append, list_any-append}
 use Rattle.std.specs.List.{list_all, list_any}
 use Rattle.std.specs.Str.{str_to_ascii_lowercase}
 use Rattle.acl_grammar.specs.Spelling.{repeated, separated, spells}
-use Rattle.grant_words.specs.Apart.{apart_classes, both_left, both_right, found_in, is_listed, never, or_first, or_second}
+use Rattle.grant_words.proofs.Apart.{apart_classes, are_apart, both_left, both_right, found_in, is_listed, never, or_first, or_second}
 use Rattle.grant_words.specs.Classes.{Class, is, is_one_of, is_word}
 use Rattle.grant_words.specs.Classes.Class.{keyword, mark, identifier, longer, valued}
 use Rattle.grant_texts.specs.Disjointness.{always_has, is_free_of, is_within}
-use Rattle.grant_words.specs.Sanity.{is_of_one, lists_apart}
-use Rattle.grant_words.specs.Syntax.{Syntax, all_apart, are_apart, grammar_of}
+use Rattle.grant_words.proofs.Sanity.{all_apart, is_of_one, lists_apart}
+use Rattle.grant_words.specs.Syntax.{Syntax, grammar_of}
 use Rattle.grant_words.specs.Syntax.Syntax.{token, after, empty, both, to, choice, list, many}
 use Rattle.grant_words.specs.declared.lexeme.Lexeme.{Lexeme}
 

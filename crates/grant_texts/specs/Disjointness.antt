@@ -1,9 +1,10 @@
 -- Rules that no list of tokens is spelled by both of.
 use Rattle.std.specs.Prelude.{Bool, true, false, ◌&&◌, ◌||◌}
 use Rattle.std.specs.List.{list_all}
+use Rattle.grant_words.proofs.Apart.{are_apart}
 use Rattle.grant_words.specs.Classes.{Class, is_one_of}
 use Rattle.grant_words.specs.Classes.Class.{keyword}
-use Rattle.grant_words.specs.Syntax.{Syntax, are_apart}
+use Rattle.grant_words.specs.Syntax.{Syntax}
 use Rattle.grant_words.specs.Syntax.Syntax.{token, after, empty, both, to, choice, list, many}
 
 -- no spelling has a token of the class

@@ -7,7 +7,8 @@ use Rattle.grant_lex.proofs.Spans.{ascii_unless_word}
 use Rattle.grant_lex.proofs.Unique.{longest_same}
 use Rattle.grant_lex.specs.Class.{class_of}
 use Rattle.grant_lex.specs.Token.{PastBlanks}
-use Rattle.script_commands.specs.Moments.{IsBlank, IsMomentAt, is_no_blank}
+use Rattle.grant_lex.specs.Next.{IsBlank}
+use Rattle.script_commands.specs.Moments.{IsMomentAt, is_no_blank}
 
 blank_class : (b : ℕ) → is_no_blank b ≡ false → IsBlank b
 blank_class b h = grind arith

@@ -1,5 +1,5 @@
 -- Commands of a script: all but statements, and without the moment of a CONNECT.
-use Rattle.std.specs.Prelude.{ℕ, Bool, List, [], Some, None, codes}
+use Rattle.std.specs.Prelude.{ℕ, Bool, is_none, List, [], Some, None, codes}
 use Rattle.std.specs.Str.{str_to_ascii_lowercase}
 use Rattle.account_match.specs.declared.client.Client.{Client}
 use Rattle.account_match.specs.declared.client.Client.TheVariants.{Local, Tcp}
@@ -8,15 +8,15 @@ use Rattle.acl_names.specs.declared.auth.AuthId.{AuthId}
 use Rattle.acl_names.specs.declared.policy.Verifier.{Verifier}
 use Rattle.acl_stmt.specs.declared.roles.RoleForm.{RoleForm}
 use Rattle.acl_stmt.specs.declared.roles.RoleForm.TheVariants as form
-use Rattle.grant_words.specs.Classes.{Class, no_fault, word}
+use Rattle.grant_words.specs.Classes.{Class, word}
 use Rattle.grant_words.specs.Classes.Class.{valued}
 use Rattle.grant_words.specs.Classes.Sort.{string}
 use Rattle.grant_words.specs.Lists.{roles}
 use Rattle.grant_words.specs.Names.{account, ident, same, user_class}
+use Rattle.grant_words.specs.Numbers.{number_of}
 use Rattle.grant_words.specs.Syntax.{Syntax}
 use Rattle.grant_words.specs.Syntax.Syntax.{token, after, empty, both, to, choice}
 use Rattle.privilege_statements.specs.Statements.{request}
-use Rattle.user_statements.specs.Options.{number_of}
 use Rattle.user_statements.specs.Secrets.{password_class, verifier_of}
 use Rattle.script_commands.specs.Numbers.{length_class, turns_class}
 use Rattle.script_commands.specs.declared.command.Connect.{Connect}
@@ -26,7 +26,7 @@ use Rattle.script_commands.specs.declared.command.RawCommand.TheVariants.{Discon
 
 -- at most 255 characters
 abbrev pub is_host_text : List ℕ → Bool
-is_host_text text = no_fault (name_fault 255 text)
+is_host_text text = is_none (name_fault 255 text)
 
 -- the address or the name of a client
 abbrev pub client_class : Class
@@ -51,12 +51,12 @@ abbrev pub connect_of : List ℕ × (Client × Verifier) → Connect
 connect_of v = record { user = v.0; client = v.1.0; verifier = v.1.1 }
 
 -- user FROM client [ PASSWORD string ]
-unfoldable pub knock : Syntax Connect
-knock = to connect_of (both (token user_class same) (after (word (codes "FROM")) (both client password)))
+unfoldable pub connection : Syntax Connect
+connection = to connect_of (both (token user_class same) (after (word (codes "FROM")) (both client password)))
 
 -- CONNECT user FROM client [ PASSWORD string ]
 unfoldable pub connect : Syntax Connect
-connect = after (word (codes "CONNECT")) knock
+connect = after (word (codes "CONNECT")) connection
 
 -- ALL, or ALL EXCEPT role, .., each behind its first word
 unfoldable pub all_roles : Syntax RoleForm

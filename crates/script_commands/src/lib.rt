@@ -2,15 +2,15 @@
 //! the moment of a CONNECT begins.
 #![tactic(auto)]
 
-mod check;
-mod classes;
+mod client;
 mod command;
-mod connecting;
+mod connection;
 mod laws;
 mod moment;
 mod number;
 mod roles;
 mod rules;
+mod session;
 
 pub use command::{Connect, RawCommand};
 pub use laws::{commands_are_no_statements, one_option_is_read};

@@ -9,12 +9,13 @@ use Rattle.acl_stmt.specs.declared.options.AccountOptions.{AccountOptions}
 use Rattle.canonical_texts.specs.Tokens.{attempts_tokens, days_tokens, locked_tokens, options_tokens, word, words_of}
 use Rattle.grant_lex.specs.Printed.{Printed}
 use Rattle.grant_lex.specs.Value.{value_of}
-use Rattle.grant_words.specs.Apart.{both_left, both_right}
+use Rattle.grant_words.proofs.Apart.{both_left, both_right}
 use Rattle.grant_words.specs.Classes.{is}
 use Rattle.grant_words.specs.Syntax.{grammar_of}
 use Rattle.grant_words.specs.declared.lexeme.Lexeme.{Lexeme}
 use Rattle.user_statements.proofs.Numbers.{same_number}
-use Rattle.user_statements.specs.Options.{is_option_number as is_number_text, lock, lock_time, number, number_class, number_of, options, options_of, setting}
+use Rattle.grant_words.specs.Numbers.{number_of}
+use Rattle.user_statements.specs.Options.{is_number_text, lock, lock_time, number, number_class, options, options_of, setting}
 use Rattle.user_statements.specs.declared.setting.Setting.{Setting}
 use Rattle.user_statements.specs.declared.setting.Setting.TheVariants.{Attempts, Lock, Locked}
 use Rattle.user_texts.proofs.Lists.{lexemes_append, repeated_append}
