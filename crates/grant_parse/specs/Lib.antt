@@ -1,3 +1,5 @@
+pub mod Disjointness
 pub mod Meaning
 pub mod Sanity
 pub mod Statements
+pub mod Texts

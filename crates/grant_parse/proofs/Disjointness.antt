@@ -8,7 +8,7 @@ use Rattle.acl_grammar.specs.Spelling.{repeated, separated, spells}
 use Rattle.grant_words.specs.Apart.{apart_classes, both_left, both_right, found_in, is_listed, never, or_first, or_second}
 use Rattle.grant_words.specs.Classes.{Class, is, is_one_of, is_word}
 use Rattle.grant_words.specs.Classes.Class.{keyword, mark, identifier, longer, valued}
-use Rattle.grant_texts.specs.Disjointness.{always_has, is_free_of, is_within}
+use Rattle.grant_parse.specs.Disjointness.{always_has, is_free_of, is_within}
 use Rattle.grant_words.specs.Sanity.{is_of_one, lists_apart}
 use Rattle.grant_words.specs.Syntax.{Syntax, all_apart, are_apart, grammar_of}
 use Rattle.grant_words.specs.Syntax.Syntax.{token, after, empty, both, to, choice, list, many}
