@@ -23,7 +23,7 @@ use Rattle.priv_items.proofs.EachOnce.{each_once-differ}
 use Rattle.priv_items.proofs.Lists.{no_bits, rules_of}
 use Rattle.priv_items.proofs.NamedColumns.{no_level_above}
 use Rattle.priv_items.proofs.OneList.{order_rest, own_columns, other_columns}
-use Rattle.priv_items.specs.Canonical.{columns_at, dynamic_at, each_below, item_itself, items_of, member_if, or_usage, static_at}
+use Rattle.priv_items.specs.Canonical.{columns_at, dynamic_at, each_below, item_itself, items_of, listed_by, member_if, or_usage, static_at}
 use Rattle.priv_items.specs.Meaning.{IsMeant, columns_on, each_once, names_on}
 use Rattle.priv_items.specs.Naming.{columns_in, columns_of, is_dynamic, is_plain, names_dynamic, names_plain}
 use Rattle.priv_items.specs.declared.item.Item.{Item}
@@ -281,7 +281,7 @@ own_all list all =
       dynamic = λ q. ap (λ bits. bit_at bits q == 1) (eqb-true list.dynamic 0 outer.1) ∙ zero_bits q;
     }
 
-own_listed : (list : PrivList) → list.all ≡ false → IsMeant (Listed (or_usage item_itself (each_below 31 (static_at item_itself list) ++ each_below 20 (dynamic_at item_itself list.dynamic)))) list
+own_listed : (list : PrivList) → list.all ≡ false → IsMeant (Listed (listed_by item_itself list)) list
 own_listed list all =
     let rules = rules_of list.all list.plain list.columns list.dynamic list.listed in
     let statics : List Item = each_below 31 (static_at item_itself list) in
@@ -307,6 +307,6 @@ own_listed list all =
 pub own_items : (list : PrivList) → IsMeant (items_of list) list
 own_items list = by list.all refl
   where
-    by : (all : Bool) → list.all ≡ all → IsMeant (if all then All else Listed (or_usage item_itself (each_below 31 (static_at item_itself list) ++ each_below 20 (dynamic_at item_itself list.dynamic)))) list
+    by : (all : Bool) → list.all ≡ all → IsMeant (if all then All else Listed (listed_by item_itself list)) list
     by true all = own_all list all
     by false all = own_listed list all

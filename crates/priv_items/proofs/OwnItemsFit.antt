@@ -20,7 +20,7 @@ use Rattle.priv_sets.specs.declared.level.Level.TheVariants.{Column}
 use Rattle.priv_sets.specs.declared.privilege.Privilege.TheVariants as privilege
 use Rattle.priv_items.proofs.Fits.{neither}
 use Rattle.priv_items.proofs.OwnItems.{column_rules}
-use Rattle.priv_items.specs.Canonical.{columns_at, dynamic_at, each_below, item_itself, items_of, member_if, or_usage, static_at}
+use Rattle.priv_items.specs.Canonical.{columns_at, dynamic_at, each_below, item_itself, items_of, listed_by, member_if, or_usage, static_at}
 use Rattle.priv_items.specs.LevelRefusals.{first_wrong, or_else, unless, wrong_in, wrong_level}
 use Rattle.priv_items.specs.Lowered.{lowered_target}
 use Rattle.priv_items.specs.declared.item.Item.{Item}
@@ -88,8 +88,8 @@ own_items_fit_target list target fits =
     by list.all (usage_fits target (each_below 31 (static_at item_itself list) ++ each_below 20 (dynamic_at item_itself list.dynamic))
     (both_fit target (each_below 31 (static_at item_itself list)) (each_below 20 (dynamic_at item_itself list.dynamic)) statics dynamics))
   where
-    by : (all : Bool) → first_wrong target (or_usage item_itself (each_below 31 (static_at item_itself list) ++ each_below 20 (dynamic_at item_itself list.dynamic))) ≡ None
-        → wrong_level (if all then All else Listed (or_usage item_itself (each_below 31 (static_at item_itself list) ++ each_below 20 (dynamic_at item_itself list.dynamic)))) target ≡ None
+    by : (all : Bool) → first_wrong target (listed_by item_itself list) ≡ None
+        → wrong_level (if all then All else Listed (listed_by item_itself list)) target ≡ None
     by true none = refl
     by false none = none
 

@@ -37,14 +37,18 @@ static_at per list number = member_if (holds list.plain number) (per.plain numbe
 abbrev pub dynamic_at : {A : Type 0} → PerItem A → ℕ → ℕ → List A
 dynamic_at per dynamic number = member_if (bit_at dynamic number == 1) (per.dynamic number)
 
--- USAGE where nothing else is named
+-- USAGE where there is nothing else
 abbrev pub or_usage : {A : Type 0} → PerItem A → List A → List A
 or_usage per [] = per.usage ∷ []
 or_usage per (member ∷ members) = member ∷ members
 
--- the static privileges and GRANT OPTION by their numbers, then the dynamic ones by theirs; nothing is said of ALL
+-- the static privileges and GRANT OPTION by their numbers, then the dynamic ones by theirs
+abbrev pub held_by : {A : Type 0} → PerItem A → PrivList → List A
+held_by per list = each_below 31 (static_at per list) ++ each_below 20 (dynamic_at per list.dynamic)
+
+-- all items of a list that is not ALL
 abbrev pub listed_by : {A : Type 0} → PerItem A → PrivList → List A
-listed_by per list = or_usage per (each_below 31 (static_at per list) ++ each_below 20 (dynamic_at per list.dynamic))
+listed_by per list = or_usage per (held_by per list)
 
 abbrev pub item_itself : PerItem Item
 item_itself = record { plain = Plain; columns = λ listed. Columns listed.privilege listed.names; dynamic = Dynamic; usage = Usage }
