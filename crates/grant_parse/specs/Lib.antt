@@ -1,4 +1,3 @@
-pub mod Disjointness
 pub mod Meaning
 pub mod Sanity
 pub mod Statements

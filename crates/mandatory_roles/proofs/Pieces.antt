@@ -5,7 +5,7 @@ use Rattle.std.specs.List.{AllByRecursion}
 use Rattle.acl_names.specs.Quoted.{doubled, quoted}
 use Rattle.grant_lex.specs.Class.{is_quote}
 use Rattle.grant_lex.specs.Value.{inside_value, value_of}
-use Rattle.reserved_words.specs.Reserved.{is_reserved}
+use Rattle.grant_lex.specs.Reserved.{is_reserved}
 use Rattle.mandatory_roles.specs.Cutting.{Cut, byte_before, closed_at, host_at, is_empty, name_at, plain_host_at, quoted_at, word_at}
 use Rattle.mandatory_roles.specs.Runs.{is_blank, is_host_byte, is_word_byte, past_run, run_of}
 use Rattle.mandatory_roles.specs.Spelling.{IsFreeWord, IsPlainHost, SpellsHost, SpellsName}

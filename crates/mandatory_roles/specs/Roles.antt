@@ -7,7 +7,7 @@ use Rattle.acl_names.specs.declared.auth.AuthId.{AuthId}
 use Rattle.acl_names.specs.declared.host.TheConstants.{HOST_LIMIT}
 use Rattle.acl_names.specs.declared.user.TheConstants.{USER_LIMIT}
 use Rattle.grant_lex.specs.Value.{value_of, inside_value}
-use Rattle.reserved_words.specs.Reserved.{reserved_words}
+use Rattle.grant_lex.specs.Reserved.{reserved_words}
 use Rattle.mandatory_roles.specs.Cutting.{Written, closed_at, is_empty, written_at}
 use Rattle.mandatory_roles.specs.declared.read.TheConstants.{ROLE_LIMIT}
 

@@ -11,7 +11,7 @@ use Rattle.acl_names.specs.declared.user.TheConstants.{USER_LIMIT}
 use Rattle.grant_lex.specs.Class.{is_quote}
 use Rattle.grant_lex.specs.Next.{BeginsWithout}
 use Rattle.grant_lex.specs.Token.{IsWord}
-use Rattle.reserved_words.specs.Reserved.{is_reserved}
+use Rattle.grant_lex.specs.Reserved.{is_reserved}
 use Rattle.mandatory_roles.specs.Runs.{is_blank, is_host_byte}
 
 -- spaces and tabs, or nothing

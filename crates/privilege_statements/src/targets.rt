@@ -12,10 +12,9 @@ ghost use Rattle.privilege_statements.specs.Targets.{behind_star, dotted, long_c
 use acl_grammar::{Class, Found, Refusal, Rule, TokenClass, expect, token_of};
 use acl_names::{Ident, NameRefusal};
 use acl_stmt::Target;
-use grant_lex::Kind;
+use grant_lex::{Kind, is_reserved};
 use grant_words::{Identifier, Keyword, Lexeme, Mark, Name};
 use priv_items::read_schema;
-use reserved_words::is_reserved;
 use std::alloc::{AllocError, Global};
 
 /// The name of a schema that is too long as it is written, and no longer without its escapes.

@@ -9,8 +9,8 @@ use Rattle.grant_lex.specs.declared.refusal.LexRefusal.{LexRefusal}
 use Rattle.grant_lex.specs.declared.sorts.Token.{Token}
 use Rattle.grant_words.specs.Classes.{is}
 use Rattle.grant_words.specs.Lexemes.{lexeme_of, lexemes_of}
-use Rattle.grant_words.specs.Sanity.{follow_within, one_apart}
-use Rattle.grant_words.specs.Syntax.{follows, grammar_of}
+use Rattle.grant_words.proofs.Sanity.{follow_within, follows, one_apart}
+use Rattle.grant_words.specs.Syntax.{grammar_of}
 use Rattle.grant_words.specs.declared.lexeme.Lexeme.{Lexeme}
 use Rattle.std.specs.Prelude.{Option}
 use Rattle.script_commands.specs.Commands.{client, client_name, client_text, connect, knock, password}

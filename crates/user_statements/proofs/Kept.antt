@@ -12,7 +12,7 @@ use Rattle.acl_stmt.specs.Statements.{are_options, are_roles, is_default_form, i
 use Rattle.acl_stmt.specs.declared.options.AccountOptions.{AccountOptions}
 use Rattle.acl_stmt.specs.declared.roles.DefaultForm.{DefaultForm}
 use Rattle.acl_stmt.specs.declared.statement.Statement.{Statement}
-use Rattle.grant_words.specs.Apart.{both_left, both_right}
+use Rattle.grant_words.proofs.Apart.{both_left, both_right}
 use Rattle.grant_words.specs.Classes.{has_sort, is}
 use Rattle.grant_words.specs.Classes.Sort.{name, plain_word, string}
 use Rattle.grant_words.specs.Lists.{accounts, comma, roles}

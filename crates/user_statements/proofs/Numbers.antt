@@ -4,7 +4,7 @@ use Rattle.std.proofs.lemmas.Bool.{and_left, and_right}
 use Rattle.std.specs.Char.{is_ascii_digit, to_ascii_lowercase}
 use Rattle.std.specs.List.{list_all}
 use Rattle.std.specs.Str.{str_to_ascii_lowercase}
-use Rattle.grant_words.specs.Apart.{both_left, both_right}
+use Rattle.grant_words.proofs.Apart.{both_left, both_right}
 use Rattle.user_statements.specs.Options.{is_option_number, number_behind, number_of}
 
 pub number_grows : (before : ℕ) (digits : List ℕ) → before ≤ number_behind before digits

@@ -9,7 +9,7 @@ use Rattle.acl_names.proofs.Lowered.{lowered-lowered, lowered_name}
 use Rattle.acl_names.specs.Name.{name_fault}
 use Rattle.acl_names.specs.declared.auth.AuthId.{AuthId}
 use Rattle.canonical_texts.specs.Tokens.{account_tokens, accounts_tokens, mark, name, spaced_name}
-use Rattle.grant_words.specs.Apart.{both_left, both_right}
+use Rattle.grant_words.proofs.Apart.{both_left, both_right}
 use Rattle.grant_words.specs.Classes.{has_sort, is, no_fault}
 use Rattle.grant_words.specs.Classes.Class.{mark as a_mark}
 use Rattle.grant_words.specs.Classes.Sort.{any_name as any_name_sort, name as name_sort}

@@ -9,7 +9,7 @@ use Rattle.acl_stmt.specs.declared.options.AccountOptions.{AccountOptions}
 use Rattle.canonical_texts.specs.Tokens.{attempts_tokens, days_tokens, locked_tokens, options_tokens, word, words_of}
 use Rattle.grant_lex.specs.Printed.{Printed}
 use Rattle.grant_lex.specs.Value.{value_of}
-use Rattle.grant_words.specs.Apart.{both_left, both_right}
+use Rattle.grant_words.proofs.Apart.{both_left, both_right}
 use Rattle.grant_words.specs.Classes.{is}
 use Rattle.grant_words.specs.Syntax.{grammar_of}
 use Rattle.grant_words.specs.declared.lexeme.Lexeme.{Lexeme}

@@ -5,7 +5,7 @@ use Rattle.acl_grammar.specs.Spelling.{spells}
 use Rattle.acl_names.specs.declared.auth.AuthId.{AuthId}
 use Rattle.acl_names.specs.declared.policy.Verifier.{Verifier}
 use Rattle.canonical_texts.specs.Tokens.{account_tokens, altered_tokens, digits_token, new_tokens, password_tokens, word, words_of}
-use Rattle.grant_words.specs.Apart.{both_right}
+use Rattle.grant_words.proofs.Apart.{both_right}
 use Rattle.grant_words.specs.Classes.{has_sort, is, word as a_word}
 use Rattle.grant_words.specs.Classes.Sort.{string as string_sort}
 use Rattle.grant_words.specs.Names.{account}

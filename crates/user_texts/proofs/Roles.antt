@@ -9,7 +9,7 @@ use Rattle.acl_names.specs.declared.host.TheConstants.{HOST_LIMIT}
 use Rattle.canonical_texts.proofs.Strings.{mandatory_read}
 use Rattle.canonical_texts.specs.Quotes.{string_text}
 use Rattle.canonical_texts.specs.Tokens.{spaced_mark, string}
-use Rattle.grant_words.specs.Apart.{both_right}
+use Rattle.grant_words.proofs.Apart.{both_right}
 use Rattle.grant_words.specs.Classes.{has_sort, is}
 use Rattle.grant_words.specs.Classes.Sort.{string as string_sort}
 use Rattle.grant_words.specs.Syntax.{grammar_of}

@@ -9,7 +9,7 @@ use Rattle.acl_stmt.specs.declared.statement.Statement.{Statement}
 use Rattle.acl_stmt.specs.declared.statement.Statement.TheVariants.{CreateUser, AlterUser, DropUser, RenameUser, CreateRole, DropRole}
 use Rattle.canonical_texts.specs.StatementTokens.{further_tokens}
 use Rattle.canonical_texts.specs.Tokens.{account_tokens, accounts_tokens, altered_tokens, list_tokens, new_tokens, options_tokens, renamed_tokens, tokens_if, word, words_of}
-use Rattle.grant_words.specs.Apart.{both_right}
+use Rattle.grant_words.proofs.Apart.{both_right}
 use Rattle.grant_words.specs.Classes.{is}
 use Rattle.grant_words.specs.Syntax.{grammar_of}
 use Rattle.grant_words.specs.declared.lexeme.Lexeme.{Lexeme}

@@ -2,7 +2,7 @@ use Rattle.std.proofs.Common.{◌≡◌, Bool, List, [], ◌∷◌, map, refl, a
 use Rattle.std.specs.List.{list_any}
 use Rattle.std.specs.Prelude.{◌||◌}
 use Rattle.std.specs.Str.{str_eq_ignore_ascii_case}
-use Rattle.reserved_words.proofs.is_reserved.Goals as goal
+use Rattle.grant_lex.proofs.reserved.is_reserved.Goals as goal
 
 list_any-map : {X Y : Type 0} (p : Y → Bool) (h : X → Y) (xs : List X) → list_any p (map h xs) ≡ list_any (λ x. p (h x)) xs
 list_any-map p h [] = refl

@@ -1,4 +1,4 @@
--- Classes that the table calls apart have no token in common.
+-- Which classes have no token in common.
 use Rattle.std.proofs.Common.{◌&&◌, ◌||◌, ◌⊎◌, ◌==◌, not, ℕ, Bool, IsTrue, true, false, List, [], ◌∷◌, inl, inr, refl, sym, ◌∙◌, ap, arith}
 use Rattle.std.proofs.lemmas.Bool.{or_cases, eqb-true, eq-eqb}
 use Rattle.std.specs.List.{list_all, list_any}
@@ -10,8 +10,7 @@ use Rattle.grant_lex.specs.declared.sorts.Kind.TheVariants.{Word, Quoted, Backqu
 use Rattle.grant_words.specs.Classes.{Class, is, is_identifier, is_one_of}
 use Rattle.grant_words.specs.Classes.Class.{keyword, mark, identifier, longer, valued}
 use Rattle.grant_words.specs.Classes.Sort.{name, any_name, string, plain_word}
-use Rattle.reserved_words.specs.Reserved.{is_reserved, reserved_words}
-use Rattle.grant_words.specs.Syntax.{are_apart}
+use Rattle.grant_lex.specs.Reserved.{is_reserved, reserved_words}
 use Rattle.grant_words.specs.declared.lexeme.Lexeme.{Lexeme}
 
 pub both_left : (a b : Bool) → IsTrue (a && b) → IsTrue a
@@ -89,6 +88,38 @@ words_clash words test v a h k =
 marks_clash : (byte other b : ℕ) → IsTrue (not (byte == other)) → IsTrue (b == byte) → IsTrue (b == other) → ⊥
 marks_clash byte other b a h k =
     never (byte == other) a (eq-eqb byte other (sym (eqb-true b byte h) ∙ eqb-true b other k))
+
+-- no token is of both classes; where this is false, some may be
+abbrev pub are_apart : Class → Class → Bool
+are_apart (keyword words) (keyword others) = not (list_any (is_one_of others) words)
+are_apart (keyword words) (mark _) = true
+are_apart (keyword words) identifier = list_all is_reserved words
+are_apart (keyword words) (longer _ _) = list_all is_reserved words
+are_apart (keyword words) (valued name test _) = list_all is_reserved words
+are_apart (keyword words) (valued any_name test _) = false
+are_apart (keyword words) (valued string test _) = true
+are_apart (keyword words) (valued plain_word test _) = not (list_any (λ word. test (str_to_ascii_lowercase word)) words)
+are_apart (mark byte) (mark other) = not (byte == other)
+are_apart (mark byte) _ = true
+are_apart identifier (keyword words) = list_all is_reserved words
+are_apart identifier (mark _) = true
+are_apart identifier (longer _ _) = true
+are_apart identifier (valued string _ _) = true
+are_apart identifier _ = false
+are_apart (longer _ _) (keyword words) = list_all is_reserved words
+are_apart (longer _ _) (mark _) = true
+are_apart (longer _ _) identifier = true
+are_apart (longer _ _) (valued string _ _) = true
+are_apart (longer _ _) _ = false
+are_apart (valued sort test _) (mark _) = true
+are_apart (valued name test _) (keyword words) = list_all is_reserved words
+are_apart (valued string test _) (keyword words) = true
+are_apart (valued plain_word test _) (keyword words) = not (list_any (λ word. test (str_to_ascii_lowercase word)) words)
+are_apart (valued string test _) identifier = true
+are_apart (valued string test _) (longer _ _) = true
+are_apart (valued string _ _) (valued plain_word _ _) = true
+are_apart (valued plain_word _ _) (valued string _ _) = true
+are_apart _ _ = false
 
 clash_keyword : (words : List (List ℕ)) (d : Class) → IsTrue (are_apart (keyword words) d) → (v : List ℕ)
     → IsTrue (is_one_of words v) → IsTrue (is d (of_kind Word v)) → ⊥

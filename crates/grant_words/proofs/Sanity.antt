@@ -4,11 +4,77 @@ use Rattle.std.proofs.lemmas.Bool.{or_cases}
 use Rattle.std.proofs.lemmas.List.Folds.{list_any-append}
 use Rattle.std.specs.List.{list_all, list_any}
 use Rattle.acl_grammar.specs.Reader.{Sane, first, goes_on, nullable}
+use Rattle.grant_lex.specs.declared.sorts.Kind.TheVariants as kinds
 use Rattle.grant_words.specs.Classes.{Class, is}
-use Rattle.grant_words.specs.Syntax.{Syntax, all_apart, are_apart, firsts, follows, grammar_of, has_sample, is_sane, may_be_empty, sample}
+use Rattle.grant_words.specs.Classes.Class.{keyword, mark, identifier, longer, valued}
+use Rattle.grant_words.specs.Classes.Sort.{name, any_name, string, plain_word}
+use Rattle.grant_words.specs.Syntax.{Syntax, grammar_of}
 use Rattle.grant_words.specs.Syntax.Syntax.{token, after, empty, both, to, choice, list, many}
 use Rattle.grant_words.specs.declared.lexeme.Lexeme.{Lexeme}
-use Rattle.grant_words.specs.Apart.{apart_classes, both_left, both_right, or_first, or_second}
+use Rattle.grant_words.proofs.Apart.{apart_classes, are_apart, both_left, both_right, or_first, or_second}
+
+-- a token of the class
+abbrev pub sample : Class → Lexeme
+sample (keyword []) = record { kind = kinds.Word; value = [] }
+sample (keyword (text ∷ _)) = record { kind = kinds.Word; value = text }
+sample (mark byte) = record { kind = kinds.Mark byte; value = byte ∷ [] }
+sample identifier = record { kind = kinds.Backquoted; value = 97 ∷ [] }
+sample (longer _ text) = record { kind = kinds.Backquoted; value = text }
+sample (valued name _ text) = record { kind = kinds.Backquoted; value = text }
+sample (valued any_name _ text) = record { kind = kinds.Backquoted; value = text }
+sample (valued string _ text) = record { kind = kinds.Quoted; value = text }
+sample (valued plain_word _ text) = record { kind = kinds.Word; value = text }
+
+abbrev pub has_sample : Class → Bool
+has_sample class = is class (sample class)
+
+-- each class is apart from each other one
+abbrev pub all_apart : List Class → List Class → Bool
+all_apart classes others = list_all (λ class. list_all (are_apart class) others) classes
+
+-- whether the empty list may spell something
+abbrev pub may_be_empty : {A : Type 0} → Syntax A → Bool
+may_be_empty (token _ _) = false
+may_be_empty (after _ _) = false
+may_be_empty (empty _) = true
+may_be_empty (both s r) = may_be_empty s && may_be_empty r
+may_be_empty (to _ s) = may_be_empty s
+may_be_empty (choice s r) = may_be_empty s || may_be_empty r
+may_be_empty (list _ s) = may_be_empty s
+may_be_empty (many _) = true
+
+-- the classes with which a spelling may begin
+abbrev pub firsts : {A : Type 0} → Syntax A → List Class
+firsts (token class _) = class ∷ []
+firsts (after class _) = class ∷ []
+firsts (empty _) = []
+firsts (both s r) = firsts s ++ (if may_be_empty s then firsts r else [])
+firsts (to _ s) = firsts s
+firsts (choice s r) = firsts s ++ firsts r
+firsts (list _ s) = firsts s
+firsts (many s) = firsts s
+
+-- the classes with which a spelling may go on behind a spelling
+abbrev pub follows : {A : Type 0} → Syntax A → List Class
+follows (token _ _) = []
+follows (after _ s) = follows s
+follows (empty _) = []
+follows (both s r) = follows r ++ (if may_be_empty r then follows s else [])
+follows (to _ s) = follows s
+follows (choice s r) = follows s ++ (follows r ++ (if may_be_empty r then firsts s else []))
+follows (list class s) = class ∷ follows s
+follows (many s) = firsts s ++ follows s
+
+-- one token ahead decides how to go on, and each class has a token
+abbrev pub is_sane : {A : Type 0} → Syntax A → Bool
+is_sane (token class _) = has_sample class
+is_sane (after class s) = has_sample class && is_sane s
+is_sane (empty _) = true
+is_sane (both s r) = is_sane s && is_sane r && all_apart (follows s) (firsts r)
+is_sane (to _ s) = is_sane s
+is_sane (choice s r) = is_sane s && is_sane r && all_apart (firsts s) (firsts r) && not (may_be_empty s)
+is_sane (list class s) = has_sample class && is_sane s && list_all (are_apart class) (follows s) && not (may_be_empty s)
+is_sane (many s) = is_sane s && all_apart (firsts s) (follows s) && not (may_be_empty s)
 
 -- the token is of one of the classes
 abbrev pub is_of_one : List Class → Lexeme → Bool

@@ -1,10 +1,7 @@
-//! The reserved words of account statements.
-#![tactic(auto)]
-
 ghost use Rattle.std.specs.Prelude.{◌≡◌, map};
 ghost use Rattle.std.specs.List.{list_any};
 ghost use Rattle.std.specs.Str.{str_eq_ignore_ascii_case};
-ghost use Rattle.reserved_words.specs.Reserved.{is_reserved, reserved_words};
+ghost use Rattle.grant_lex.specs.Reserved.{is_reserved, reserved_words};
 
 // In capitals, by bytes.
 static WORDS: [&str; 31] = [
