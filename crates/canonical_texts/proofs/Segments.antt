@@ -18,14 +18,13 @@ use Rattle.acl_stmt.specs.declared.target.Target.{Target}
 use Rattle.acl_stmt.specs.declared.target.Target.TheVariants as on
 use Rattle.grant_lex.proofs.Runs.{all_append}
 use Rattle.grant_lex.proofs.Written.{name_token, string_token}
-use Rattle.grant_lex.specs.Class.{class_of}
+use Rattle.grant_lex.specs.Class.{class_of, is_word_byte}
 use Rattle.grant_lex.specs.Next.{IsOf}
 use Rattle.grant_lex.specs.Printed.{Printed}
 use Rattle.grant_lex.specs.Token.{IsOfSort}
 use Rattle.grant_lex.specs.declared.sorts.Kind.TheVariants.{Word, Quoted}
 use Rattle.hex.specs.Hex.{encode_lower, encode_with, lower_digits}
 use Rattle.mandatory_roles.proofs.Bytes.{class_from_word, is_byte}
-use Rattle.mandatory_roles.specs.Runs.{is_word_byte}
 use Rattle.priv_sets.specs.DynamicNames.{dynamic_name, dynamic_names}
 use Rattle.priv_sets.specs.PlainNames.{plain_name, plain_names}
 use Rattle.priv_sets.specs.StaticSet.{holds}

@@ -14,6 +14,7 @@ mod reserved;
 mod sorts;
 mod value;
 
+pub use class::{is_blank, is_word_byte};
 pub use cut::tokens;
 pub use laws::{printed_tokens_are_read, texts_have_one_reading, values_are_meant};
 pub use refusal::LexRefusal;

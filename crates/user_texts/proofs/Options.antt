@@ -15,7 +15,8 @@ use Rattle.grant_words.specs.Classes.{is}
 use Rattle.grant_words.specs.Syntax.{grammar_of}
 use Rattle.grant_words.specs.declared.lexeme.Lexeme.{Lexeme}
 use Rattle.user_statements.proofs.Numbers.{same_number}
-use Rattle.user_statements.specs.Options.{is_option_number as is_number_text, lock, lock_time, number, number_class, number_of, options, options_of, setting}
+use Rattle.grant_words.specs.Numbers.{number_of}
+use Rattle.user_statements.specs.Options.{is_option_number as is_number_text, lock, lock_time, number, number_class, options, options_of, setting}
 use Rattle.user_statements.specs.declared.setting.Setting.{Setting}
 use Rattle.user_statements.specs.declared.setting.Setting.TheVariants.{Attempts, Lock, Locked}
 use Rattle.canonical_texts.proofs.Lexemes.{lexemes_append}

@@ -4,23 +4,24 @@ ghost use Rattle.std.specs.Prelude.{◌≡◌, IfOk, []};
 ghost use Rattle.acl_grammar.specs.Code.{Gives};
 ghost use Rattle.acl_grammar.specs.Reader.{read};
 ghost use Rattle.grant_words.specs.Syntax.{grammar_of};
-ghost use Rattle.script_commands.specs.Commands.{client, client_name, client_text, knock, password};
+ghost use Rattle.script_commands.specs.Commands.{client, client_name, client_text, connection, password};
 
 use crate::Connect;
-use crate::classes::{ClientText, Password};
+use crate::client::ClientText;
 use account_match::Client;
 use acl_grammar::{Found, Refusal, expect, token_of};
 use acl_names::{HostText, Verifier};
 use grant_words::{Keyword, Lexeme, User};
 use login_throttle::verifier;
 use std::alloc::{AllocError, Global};
+use user_statements::Password;
 
-#[tactic(auto, unfolding(crate::specs::Commands::knock))]
-pub(crate) fn knock<'a>(
+#[tactic(auto, unfolding(crate::specs::Commands::connection))]
+pub(crate) fn connection<'a>(
     alloc: Global,
     tokens: &'a [Lexeme],
 ) -> Result<Found<'a, Lexeme, Connect>, Refusal<'a, Lexeme>>
-    ensures { Gives (λ value. value) result (read (grammar_of knock) tokens.now) }
+    ensures { Gives (λ value. value) result (read (grammar_of connection) tokens.now) }
 {
     let user = token_of::<User, Lexeme>(alloc, tokens)?;
     let rest = expect(&Keyword("FROM"), user.rest)?;
