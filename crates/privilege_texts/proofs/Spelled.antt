@@ -35,7 +35,7 @@ use Rattle.privilege_statements.proofs.Unescaping.{stays_a_name}
 use Rattle.privilege_statements.specs.PrivilegeItems.{column_names, item, maybe_columns, maybe_privileges, privilege_item, privileges, static_item, static_privilege}
 use Rattle.privilege_statements.specs.Targets.{behind_star, dotted, escaped_target, is_long_schema, long_target, marked_target, on_escaped_schema, schema_target, star_or_table, target}
 use Rattle.privilege_texts.specs.Rules.{IsText}
-use Rattle.canonical_texts.proofs.Accounts.{account_keeps, none_from}
+use Rattle.canonical_texts.proofs.SpelledAccounts.{account_keeps, none_from}
 use Rattle.canonical_texts.specs.Rules.{account_keeps_rules}
 use Rattle.privilege_texts.specs.Rules.{columns_keep_rules, target_keeps_rules}
 

@@ -20,7 +20,7 @@ use Rattle.grant_words.specs.Syntax.{grammar_of}
 use Rattle.grant_words.specs.declared.lexeme.Lexeme.{Lexeme}
 use Rattle.mandatory_roles.proofs.Names.{value_quoted}
 use Rattle.user_texts.proofs.Lists.{list_again}
-use Rattle.canonical_texts.proofs.Accounts.{account_keeps, account_spelled, host_keeps, host_spelled}
+use Rattle.canonical_texts.proofs.SpelledAccounts.{account_keeps, account_spelled, host_keeps, host_spelled}
 
 role_user_is : (user : List ℕ) (t : Lexeme) → IsTrue (is role_class t) → user ≡ t.value → IsTrue (is role_class (printed_lexeme (spaced_name user)))
 unfolding is

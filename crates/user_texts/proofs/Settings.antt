@@ -18,7 +18,7 @@ use Rattle.mandatory_roles.specs.Text.{roles_text}
 use Rattle.user_statements.specs.Statements.{for_account, on_or_off, set_activate_all, set_mandatory, set_password}
 use Rattle.user_texts.proofs.Digests.{IsDigest}
 use Rattle.canonical_texts.proofs.Lexemes.{lexemes_append}
-use Rattle.canonical_texts.proofs.Accounts.{account_keeps, account_spelled}
+use Rattle.canonical_texts.proofs.SpelledAccounts.{account_keeps, account_spelled}
 use Rattle.user_texts.proofs.Passwords.{secret_digest, secret_written}
 use Rattle.user_texts.proofs.Roles.{mandatory_again}
 use Rattle.user_texts.proofs.Rules.{from_activate_all, from_mandatory, from_password, key}
