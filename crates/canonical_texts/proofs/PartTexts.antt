@@ -1,5 +1,6 @@
 -- What the tokens of the parts of statements print.
 use Rattle.std.proofs.Common.{◌≡◌, ℕ, zero, suc, Bool, true, false, cond, eqb, List, [], ◌∷◌, ◌++◌, map, Option, Some, None, refl, sym, ap, ◌∙◌, append_assoc, append-nil}
+use Rattle.std.proofs.lemmas.List.{map-append}
 use Rattle.std.specs.Int.{bit_at}
 use Rattle.std.specs.List.{flat_map}
 use Rattle.std.specs.Prelude.{codes, decimal}
@@ -157,10 +158,6 @@ spaced text = codes " " ++ text
 member_print : (test : Bool) (tokens : List Printed) (text : List ℕ) → printed tokens ≡ spaced text → map printed (member_if test tokens) ≡ map spaced (member_if test text)
 member_print true tokens text e = ap (λ l. l ∷ []) e
 member_print false tokens text e = refl
-
-map-append : {A B : Type 0} (f : A → B) (xs ys : List A) → map f (xs ++ ys) ≡ map f xs ++ map f ys
-map-append f [] ys = refl
-map-append f (x ∷ xs) ys = ap (λ l. f x ∷ l) (map-append f xs ys)
 
 columns_all : (number : ℕ) (columns : List ColumnPriv) → map printed (flat_map (columns_at item_tokens number) columns) ≡ map spaced (flat_map (columns_at item_text number) columns)
 columns_all number [] = refl

@@ -26,7 +26,7 @@ use Rattle.privilege_texts.proofs.Spelled.{all_front}
 use Rattle.privilege_texts.proofs.Statements.{read_back as privileges_read_back}
 use Rattle.privilege_texts.proofs.TokenValues.{tokens_are_text}
 use Rattle.privilege_texts.specs.Rules.{IsText}
-use Rattle.privilege_texts.specs.ReadBack.{IsReadBack as IsSpelledAgain}
+use Rattle.privilege_texts.specs.SpelledAgain.{IsSpelledAgain}
 use Rattle.user_statements.specs.Statements.{user_statement}
 use Rattle.user_texts.proofs.Statements.{canonical_read as users_read_back, completed_read}
 use Rattle.canonical_texts.specs.Rules.{account_keeps_rules}
