@@ -16,11 +16,11 @@ use Rattle.acl_stmt.specs.declared.privileges.PrivList.{PrivList}
 use Rattle.acl_stmt.specs.declared.target.Target.{Target}
 use Rattle.acl_stmt.specs.declared.target.Target.TheVariants as on
 use Rattle.grant_lex.specs.Printed.{Printed, printed}
+use Rattle.mandatory_roles.proofs.Bytes.{is_byte}
+use Rattle.priv_items.specs.Canonical.{columns_at, dynamic_at, each_below, held_by, listed_by, member_if, or_usage, static_at}
 use Rattle.priv_sets.specs.DynamicNames.{dynamic_name}
 use Rattle.priv_sets.specs.PlainNames.{plain_name}
 use Rattle.priv_sets.specs.StaticSet.{holds}
-use Rattle.mandatory_roles.proofs.Bytes.{is_byte}
-use Rattle.priv_items.specs.Canonical.{columns_at, dynamic_at, each_below, held_by, listed_by, member_if, or_usage, static_at}
 use Rattle.canonical_texts.specs.Lists.{list_text, text_if}
 use Rattle.canonical_texts.specs.Privileges.{columns_item, item_text, privileges_text, same_text}
 use Rattle.canonical_texts.specs.Texts.{accounts_text, altered_text, attempts_text, days_text, locked_text, members_text, new_text, options_text, password_text, renamed_text, target_text}

@@ -1,6 +1,4 @@
 -- GRANT and REVOKE of privileges are read back from their canonical tokens.
-use Rattle.grant_words.specs.Lexemes.{printed_lexeme, printed_lexemes}
-use Rattle.canonical_texts.specs.Lexemes.{canonical_lexemes}
 use Rattle.std.proofs.Common.{◌≡◌, ◌∙◌, refl, sym, ap, subst, Bool, true, false, cond, not, ◌&&◌, ◌||◌, List, [], ◌∷◌, ◌++◌, append_assoc, inl, inr}
 use Rattle.std.proofs.lemmas.Bool.{and_from, or_from}
 use Rattle.std.specs.List.{AllByRecursion, filter, list_all}
@@ -14,11 +12,15 @@ use Rattle.acl_stmt.specs.declared.statement.Statement.{Statement}
 use Rattle.acl_stmt.specs.declared.statement.Statement.TheVariants as statement
 use Rattle.acl_stmt.specs.declared.target.Target.{Target}
 use Rattle.acl_stmt.specs.declared.target.Target.TheVariants as on
+use Rattle.canonical_texts.proofs.Lexemes.{lexemes_append}
+use Rattle.canonical_texts.specs.Lexemes.{canonical_lexemes}
+use Rattle.canonical_texts.specs.Rules.{account_keeps_rules}
 use Rattle.canonical_texts.specs.StatementTokens.{further_tokens}
 use Rattle.canonical_texts.specs.Tokens.{accounts_tokens, opening, privileges_tokens, target_tokens, tokens_if, word, words_of}
 use Rattle.grant_lex.specs.Printed.{Printed}
 use Rattle.grant_parse.specs.Meaning.{MeansStatement, level_fault}
 use Rattle.grant_words.specs.Classes.{is}
+use Rattle.grant_words.specs.Lexemes.{printed_lexeme, printed_lexemes}
 use Rattle.grant_words.specs.Lists.{accounts}
 use Rattle.grant_words.specs.Syntax.{grammar_of}
 use Rattle.grant_words.specs.declared.lexeme.Lexeme.{Lexeme}
@@ -43,13 +45,11 @@ use Rattle.privilege_statements.specs.Targets.{target}
 use Rattle.privilege_statements.specs.declared.statement.RawStatement.{RawStatement}
 use Rattle.privilege_statements.specs.declared.statement.RawStatement.TheVariants as raw
 use Rattle.privilege_texts.proofs.Accounts.{accounts_spelled}
-use Rattle.canonical_texts.proofs.Lexemes.{lexemes_append}
 use Rattle.privilege_texts.proofs.Privileges.{privileges_spelled}
 use Rattle.privilege_texts.proofs.Spelled.{accounts_keep, all_back, all_front, granted_columns_keep, meant_target_keeps, revoked_columns_keep}
 use Rattle.privilege_texts.proofs.Targets.{target_spelled}
 use Rattle.privilege_texts.specs.Rules.{IsText}
 use Rattle.privilege_texts.specs.SpelledAgain.{IsSpelledAgain}
-use Rattle.canonical_texts.specs.Rules.{account_keeps_rules}
 use Rattle.privilege_texts.specs.Rules.{columns_keep_rules, names_keep_rules, parts_keep_rules, target_keeps_rules}
 
 on_target_spelled : (list : PrivList) (on_what : Target) → list_all columns_keep_rules list.columns ≡ true → target_keeps_rules on_what ≡ true

@@ -1,18 +1,18 @@
 -- Statements on what is granted are read back.
-use Rattle.grant_words.specs.Lexemes.{printed_lexeme, printed_lexemes}
 use Rattle.std.proofs.Common.{List, [], ◌∷◌, ◌++◌, inl, inr, refl, sym, subst}
 use Rattle.std.specs.Prelude.{codes}
 use Rattle.acl_grammar.specs.Spelling.{spells}
 use Rattle.acl_stmt.specs.declared.roles.DefaultForm.{DefaultForm}
 use Rattle.acl_stmt.specs.declared.statement.Statement.{Statement}
 use Rattle.acl_stmt.specs.declared.statement.Statement.TheVariants.{GrantRoles, RevokeAll, RevokeRoles, SetDefaultRole}
+use Rattle.canonical_texts.proofs.Lexemes.{lexemes_append}
 use Rattle.canonical_texts.specs.StatementTokens.{default_tokens, further_tokens}
 use Rattle.canonical_texts.specs.Tokens.{accounts_tokens, mark, tokens_if, word, words_of}
 use Rattle.grant_words.specs.Classes.{is}
+use Rattle.grant_words.specs.Lexemes.{printed_lexeme, printed_lexemes}
 use Rattle.grant_words.specs.Syntax.{grammar_of}
 use Rattle.grant_words.specs.declared.lexeme.Lexeme.{Lexeme}
 use Rattle.user_statements.specs.Statements.{default_form, grant_roles, maybe_privileges, revoke_all, revoke_roles, set_default_role}
-use Rattle.canonical_texts.proofs.Lexemes.{lexemes_append}
 use Rattle.user_texts.proofs.Names.{accounts_again, roles_again}
 use Rattle.user_texts.proofs.Rules.{admin_option_again, from_default_role, from_grant, from_revoke, from_revoke_all, key}
 use Rattle.user_texts.proofs.Users.{IsReadAgain}

@@ -1,5 +1,4 @@
 -- The list of mandatory roles is read back from its string.
-use Rattle.grant_words.specs.Lexemes.{printed_lexeme}
 use Rattle.std.proofs.Common.{◌≡◌, ◌≤◌, ℕ, IsTrue, is_some, List, [], ◌∷◌, length, Option, Some, None, refl, sym, ap, subst}
 use Rattle.std.specs.List.{AllByRecursion}
 use Rattle.acl_grammar.specs.Spelling.{spells}
@@ -12,6 +11,7 @@ use Rattle.canonical_texts.specs.Tokens.{spaced_mark, string}
 use Rattle.grant_words.proofs.Apart.{both_right}
 use Rattle.grant_words.specs.Classes.{has_sort, is}
 use Rattle.grant_words.specs.Classes.Sort.{string as string_sort}
+use Rattle.grant_words.specs.Lexemes.{printed_lexeme}
 use Rattle.grant_words.specs.Syntax.{grammar_of}
 use Rattle.grant_words.specs.Syntax.Syntax.{after, token}
 use Rattle.grant_words.specs.declared.lexeme.Lexeme.{Lexeme}

@@ -1,5 +1,4 @@
 -- Statements on a password and on settings are read back.
-use Rattle.grant_words.specs.Lexemes.{printed_lexeme, printed_lexemes}
 use Rattle.std.proofs.Common.{◌≡◌, IsTrue, Bool, true, false, List, [], ◌∷◌, ◌++◌, Option, Some, None, cond, inl, inr, refl, sym, ap, subst, ◌∙◌}
 use Rattle.std.specs.Prelude.{codes}
 use Rattle.acl_grammar.specs.Spelling.{spells}
@@ -8,22 +7,23 @@ use Rattle.acl_names.specs.declared.policy.Verifier.{Verifier}
 use Rattle.acl_stmt.specs.Entries.{is_complete}
 use Rattle.acl_stmt.specs.declared.statement.Statement.{Statement}
 use Rattle.acl_stmt.specs.declared.statement.Statement.TheVariants.{SetPassword, SetMandatory, SetActivateAll}
+use Rattle.canonical_texts.proofs.Lexemes.{lexemes_append}
+use Rattle.canonical_texts.proofs.SpelledAccounts.{account_keeps, account_spelled}
 use Rattle.canonical_texts.specs.Quotes.{string_text}
+use Rattle.canonical_texts.specs.Rules.{account_keeps_rules}
 use Rattle.canonical_texts.specs.StatementTokens.{further_tokens}
 use Rattle.canonical_texts.specs.Tokens.{account_tokens, digits_token, spaced_mark, string, word}
 use Rattle.grant_words.specs.Classes.{is}
+use Rattle.grant_words.specs.Lexemes.{printed_lexeme, printed_lexemes}
 use Rattle.grant_words.specs.Syntax.{grammar_of}
 use Rattle.grant_words.specs.declared.lexeme.Lexeme.{Lexeme}
 use Rattle.mandatory_roles.specs.Text.{roles_text}
 use Rattle.user_statements.specs.Statements.{for_account, on_or_off, set_activate_all, set_mandatory, set_password}
 use Rattle.user_texts.proofs.Digests.{IsDigest}
-use Rattle.canonical_texts.proofs.Lexemes.{lexemes_append}
-use Rattle.canonical_texts.proofs.SpelledAccounts.{account_keeps, account_spelled}
 use Rattle.user_texts.proofs.Passwords.{secret_digest, secret_written}
 use Rattle.user_texts.proofs.Roles.{mandatory_again}
 use Rattle.user_texts.proofs.Rules.{from_activate_all, from_mandatory, from_password, key}
 use Rattle.user_texts.proofs.Users.{IsReadAgain}
-use Rattle.canonical_texts.specs.Rules.{account_keeps_rules}
 
 for_keeps : (ts : List Lexeme) (a : AuthId) → spells (grammar_of for_account) ts (Some a) → IsTrue (account_keeps_rules a)
 unfolding for_account

@@ -1,12 +1,13 @@
 -- Statements that name no privileges are read back from their canonical texts.
 use Rattle.std.proofs.Common.{IsTrue, List, Some, None, inl, inr, sym, subst}
 use Rattle.acl_grammar.specs.Spelling.{spells}
-use Rattle.acl_stmt.specs.Entries.{is_complete}
-use Rattle.acl_stmt.specs.Statements.{is_statement}
 use Rattle.acl_names.specs.declared.auth.AuthId.{AuthId}
 use Rattle.acl_names.specs.declared.policy.Verifier.{Verifier}
+use Rattle.acl_stmt.specs.Entries.{is_complete}
+use Rattle.acl_stmt.specs.Statements.{is_statement}
 use Rattle.acl_stmt.specs.declared.statement.Statement.{Statement}
 use Rattle.acl_stmt.specs.declared.statement.Statement.TheVariants.{SetPassword}
+use Rattle.canonical_texts.specs.Rules.{account_keeps_rules}
 use Rattle.grant_words.specs.Syntax.{grammar_of}
 use Rattle.grant_words.specs.declared.lexeme.Lexeme.{Lexeme}
 use Rattle.user_statements.proofs.Kept.{statement_kept}
@@ -16,7 +17,6 @@ use Rattle.user_texts.proofs.Granted.{default_role_again, grant_again, revoke_ag
 use Rattle.user_texts.proofs.Passwords.{secret_digest}
 use Rattle.user_texts.proofs.Settings.{activate_all_again, mandatory_read_back, password_again, password_written}
 use Rattle.user_texts.proofs.Users.{IsReadAgain, alter_user_again, create_role_again, create_user_again, drop_role_again, drop_user_again, rename_user_again}
-use Rattle.canonical_texts.specs.Rules.{account_keeps_rules}
 
 set_again : (ts : List Lexeme) (s : Statement) → spells (grammar_of set) ts s → IsTrue (is_complete s) → IsReadAgain s
 unfolding set set_persist

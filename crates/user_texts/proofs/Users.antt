@@ -1,6 +1,4 @@
 -- Statements on accounts and roles are read back.
-use Rattle.grant_words.specs.Lexemes.{printed_lexemes}
-use Rattle.canonical_texts.specs.Lexemes.{canonical_lexemes}
 use Rattle.std.proofs.Common.{IsTrue, List, ◌∷◌, ◌++◌, refl, sym, ap, subst, ◌∙◌}
 use Rattle.std.specs.Prelude.{codes}
 use Rattle.acl_grammar.specs.Spelling.{spells}
@@ -9,14 +7,16 @@ use Rattle.acl_stmt.specs.Columns.{is_some_list}
 use Rattle.acl_stmt.specs.Statements.{are_options, is_statement}
 use Rattle.acl_stmt.specs.declared.statement.Statement.{Statement}
 use Rattle.acl_stmt.specs.declared.statement.Statement.TheVariants.{CreateUser, AlterUser, DropUser, RenameUser, CreateRole, DropRole}
+use Rattle.canonical_texts.proofs.Lexemes.{lexemes_append}
+use Rattle.canonical_texts.specs.Lexemes.{canonical_lexemes}
 use Rattle.canonical_texts.specs.StatementTokens.{further_tokens}
 use Rattle.canonical_texts.specs.Tokens.{account_tokens, accounts_tokens, altered_tokens, list_tokens, new_tokens, options_tokens, renamed_tokens, tokens_if, word, words_of}
 use Rattle.grant_words.proofs.Apart.{both_right}
 use Rattle.grant_words.specs.Classes.{is}
+use Rattle.grant_words.specs.Lexemes.{printed_lexemes}
 use Rattle.grant_words.specs.Syntax.{grammar_of}
 use Rattle.grant_words.specs.declared.lexeme.Lexeme.{Lexeme}
 use Rattle.user_statements.specs.Statements.{alter_user, altered_account, create_role, create_user, drop_role, drop_user, new_account, rename_user, renaming, user_statement}
-use Rattle.canonical_texts.proofs.Lexemes.{lexemes_append}
 use Rattle.user_texts.proofs.Lists.{list_again}
 use Rattle.user_texts.proofs.Names.{account_again, accounts_again, role_again, roles_again}
 use Rattle.user_texts.proofs.Options.{options_again}
