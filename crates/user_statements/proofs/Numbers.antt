@@ -1,5 +1,5 @@
 -- What is a number of an option.
-use Rattle.std.proofs.Common.{◌≡◌, ◌&&◌, Bool, false, nat_le, length, ℕ, List}
+use Rattle.std.proofs.Common.{◌≡◌, ◌&&◌, false, nat_le, length, ℕ, List}
 use Rattle.std.proofs.lemmas.Bool.{and_left, and_right}
 use Rattle.std.specs.Char.{is_ascii_digit}
 use Rattle.std.specs.List.{list_all}
