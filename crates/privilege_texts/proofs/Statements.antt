@@ -82,7 +82,7 @@ accounts_again ts [] spelled = absurd spelled
 accounts_again ts (first ∷ others) spelled = accounts_spelled first others (accounts_keep ts (first ∷ others) spelled)
 
 -- the tokens behind a target, from the keyword before the accounts on
-cut_behind : (first middle rest : List Printed) → printed_lexemes (first ++ (middle ++ rest)) ≡ printed_lexemes (first ++ middle) ++ lexemes rest
+cut_behind : (first middle rest : List Printed) → printed_lexemes (first ++ (middle ++ rest)) ≡ printed_lexemes (first ++ middle) ++ printed_lexemes rest
 cut_behind first middle rest = ap printed_lexemes (sym (append_assoc first middle rest)) ∙ lexemes_append (first ++ middle) rest
 
 module _ (list : PrivList) (on_what : Target) (all : List AuthId) (columns : list_all columns_keep_rules list.columns ≡ true) (keeps : target_keeps_rules on_what ≡ true)
