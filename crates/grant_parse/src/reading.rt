@@ -3,7 +3,7 @@
 ghost use Rattle.std.specs.Prelude.{◌≡◌, ◌<◌, ◌^◌, IfErr, IfOk, length};
 ghost use Rattle.acl_grammar.specs.Code.{either_view};
 ghost use Rattle.acl_grammar.specs.Spelling.{Disjoint, one_of, spells};
-ghost use Rattle.grant_texts.specs.Texts.{IsSpelled, IsSyntaxRefusal};
+ghost use Rattle.grant_parse.specs.Texts.{IsSpelled, IsSyntaxRefusal};
 
 use crate::cutting::cut;
 use acl_grammar::{Either, Refusal, Rule, read_either, read_whole};

@@ -56,18 +56,18 @@ abbrev pub IsRead : {M S : Type 0} → (List Lexeme → M → Type 0) → (M →
 IsRead {M = M} P fault Means most text s = (length text ≤ most) × (m : M) × IsSpelled P text m × (fault m ≡ None) × Means m s
 
 -- want of memory, or else exactly this
-abbrev pub IsRefused : {M : Type 0} → (List Lexeme → M → Type 0) → (M → Option Privilege) → ℕ → List ℕ → ParseRefusal → Type 0
-IsRefused P fault most text NoMemory = Unit {0}
-IsRefused P fault most text Limit = most < length text
-IsRefused P fault most text (Syntax offset) = (length text ≤ most) × IsSyntax P text offset
-IsRefused {M = M} P fault most text (WrongLevel privilege) = (length text ≤ most) × (m : M) × IsSpelled P text m × (fault m ≡ Some privilege)
+abbrev pub IsParseRefusal : {M : Type 0} → (List Lexeme → M → Type 0) → (M → Option Privilege) → ℕ → List ℕ → ParseRefusal → Type 0
+IsParseRefusal P fault most text NoMemory = Unit {0}
+IsParseRefusal P fault most text Limit = most < length text
+IsParseRefusal P fault most text (Syntax offset) = (length text ≤ most) × IsSyntax P text offset
+IsParseRefusal {M = M} P fault most text (WrongLevel privilege) = (length text ≤ most) × (m : M) × IsSpelled P text m × (fault m ≡ Some privilege)
 
 -- this answer, unless memory was wanting
-abbrev pub Answers : {S : Type 0} → Result S ParseRefusal → S → Type 0
-Answers (Ok made) s = made ≡ s
-Answers (Err refusal) s = refusal ≡ NoMemory
+abbrev pub ReadsAs : {S : Type 0} → Result S ParseRefusal → S → Type 0
+ReadsAs (Ok made) s = made ≡ s
+ReadsAs (Err refusal) s = refusal ≡ NoMemory
 
 -- this refusal, unless memory was wanting
-abbrev pub Refuses : {S : Type 0} → Result S ParseRefusal → ParseRefusal → Type 0
-Refuses (Ok made) wanted = ⊥
-Refuses (Err refusal) wanted = (refusal ≡ wanted) ⊎ (refusal ≡ NoMemory)
+abbrev pub RefusesAs : {S : Type 0} → Result S ParseRefusal → ParseRefusal → Type 0
+RefusesAs (Ok made) wanted = ⊥
+RefusesAs (Err refusal) wanted = (refusal ≡ wanted) ⊎ (refusal ≡ NoMemory)

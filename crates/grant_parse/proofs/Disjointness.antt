@@ -1,5 +1,5 @@
 -- Rules that no list of tokens is spelled by both of.
-use Rattle.std.proofs.Common.{◌&&◌, ◌++◌, ◌⊎◌, not, Bool, IsTrue, true, false, List, [], ◌∷◌, inl, inr, refl, ◌∙◌, ap}
+use Rattle.std.proofs.Common.{◌&&◌, ◌||◌, ◌++◌, ◌⊎◌, not, Bool, IsTrue, true, false, List, [], ◌∷◌, inl, inr, refl, ◌∙◌, ap}
 use Rattle.std.proofs.lemmas.Bool.{or_cases}
 use Rattle.std.proofs.lemmas.List.Folds.{list_all-append, list_any-append}
 use Rattle.std.specs.List.{list_all, list_any}
@@ -8,11 +8,37 @@ use Rattle.acl_grammar.specs.Spelling.{repeated, separated, spells}
 use Rattle.grant_words.proofs.Apart.{apart_classes, are_apart, both_left, both_right, found_in, is_listed, never, or_first, or_second}
 use Rattle.grant_words.specs.Classes.{Class, is, is_one_of, is_word}
 use Rattle.grant_words.specs.Classes.Class.{keyword, mark, identifier, longer, valued}
-use Rattle.grant_texts.specs.Disjointness.{always_has, is_free_of, is_within}
 use Rattle.grant_words.proofs.Sanity.{all_apart, is_of_one, lists_apart}
 use Rattle.grant_words.specs.Syntax.{Syntax, grammar_of}
 use Rattle.grant_words.specs.Syntax.Syntax.{token, after, empty, both, to, choice, list, many}
 use Rattle.grant_words.specs.declared.lexeme.Lexeme.{Lexeme}
+
+-- no spelling has a token of the class
+abbrev pub is_free_of : {A : Type 0} → Class → Syntax A → Bool
+is_free_of class (token other _) = are_apart class other
+is_free_of class (after other s) = are_apart class other && is_free_of class s
+is_free_of class (empty _) = true
+is_free_of class (both s r) = is_free_of class s && is_free_of class r
+is_free_of class (to _ s) = is_free_of class s
+is_free_of class (choice s r) = is_free_of class s && is_free_of class r
+is_free_of class (list other s) = are_apart class other && is_free_of class s
+is_free_of class (many s) = is_free_of class s
+
+-- each token of the other class is of the class; where this is false, some may be none
+abbrev pub is_within : Class → Class → Bool
+is_within (keyword words) (keyword others) = list_all (is_one_of words) others
+is_within _ _ = false
+
+-- each spelling has a token of the class
+abbrev pub always_has : {A : Type 0} → Class → Syntax A → Bool
+always_has class (token _ _) = false
+always_has class (after other s) = is_within class other || always_has class s
+always_has class (empty _) = false
+always_has class (both s r) = always_has class s || always_has class r
+always_has class (to _ s) = always_has class s
+always_has class (choice s r) = always_has class s && always_has class r
+always_has class (list _ s) = always_has class s
+always_has class (many _) = false
 
 not_true : (b : Bool) → (IsTrue b → ⊥) → IsTrue (not b)
 not_true true h = absurd (h refl)

@@ -9,7 +9,7 @@ use Rattle.grant_lex.specs.declared.refusal.LexRefusal.TheVariants.{BadByte, Unc
 use Rattle.grant_lex.specs.declared.sorts.Token.{Token}
 use Rattle.grant_refusal.specs.declared.ParseRefusal.{ParseRefusal}
 use Rattle.grant_refusal.specs.declared.ParseRefusal.TheVariants.{Limit, Syntax, WrongLevel, NoMemory}
-use Rattle.grant_texts.specs.Texts.{Answers, IsBadText, IsRead, IsRefused, IsSpelled, IsSyntax, Refuses, place_of}
+use Rattle.grant_parse.specs.Texts.{IsBadText, IsParseRefusal, IsRead, IsSpelled, IsSyntax, ReadsAs, RefusesAs, place_of}
 use Rattle.grant_words.specs.Lexemes.{lexemes_of}
 use Rattle.grant_words.specs.declared.lexeme.Lexeme.{Lexeme}
 use Rattle.priv_sets.specs.declared.privilege.Privilege.{Privilege}
@@ -70,7 +70,7 @@ read_once {M = M} {S = S} P fault Means unique meant most text s other (h, m, k,
     meant m s other means (subst Q same means')
 
 read_not_refused : {M S : Type 0} (P : List Lexeme → M → Type 0) (fault : M → Option Privilege) (Means : M → S → Type 0) → IsUnique P
-    → (most : ℕ) (text : List ℕ) (s : S) (refusal : ParseRefusal) → IsRead P fault Means most text s → IsRefused P fault most text refusal
+    → (most : ℕ) (text : List ℕ) (s : S) (refusal : ParseRefusal) → IsRead P fault Means most text s → IsParseRefusal P fault most text refusal
     → refusal ≡ NoMemory
 read_not_refused P fault Means unique most text s NoMemory (h, m, k, none, means) r = refl
 read_not_refused P fault Means unique most text s Limit (h, m, k, none, means) r = absurd (omega arith)
@@ -79,7 +79,7 @@ read_not_refused P fault Means unique most text s (WrongLevel p) (h, m, k, none,
     absurd (some_none p (sym none ∙ ap fault (spelled_once P unique text m m' k k') ∙ some))
 
 refused_alike : {M : Type 0} (P : List Lexeme → M → Type 0) (fault : M → Option Privilege) → IsUnique P → (most : ℕ) (text : List ℕ)
-    → (refusal wanted : ParseRefusal) → IsRefused P fault most text refusal → (wanted ≢ NoMemory) → IsRefused P fault most text wanted
+    → (refusal wanted : ParseRefusal) → IsParseRefusal P fault most text refusal → (wanted ≢ NoMemory) → IsParseRefusal P fault most text wanted
     → (refusal ≡ wanted) ⊎ (refusal ≡ NoMemory)
 refused_alike P fault unique most text NoMemory wanted r some w = inr refl
 refused_alike P fault unique most text refusal NoMemory r some w = absurd (some refl)
@@ -98,14 +98,14 @@ refused_alike P fault unique most text (WrongLevel p) (WrongLevel q) (h, m, k, r
 -- an answer that is right is the only one
 pub answered_only : {M S : Type 0} (P : List Lexeme → M → Type 0) (fault : M → Option Privilege) (Means : M → S → Type 0) → IsUnique P
     → ((m : M) (s other : S) → Means m s → Means m other → s ≡ other) → (most : ℕ) (text : List ℕ) (result : Result S ParseRefusal)
-    → IfOk result (IsRead P fault Means most text) → IfErr result (IsRefused P fault most text) → (s : S) → IsRead P fault Means most text s → Answers result s
+    → IfOk result (IsRead P fault Means most text) → IfErr result (IsParseRefusal P fault most text) → (s : S) → IsRead P fault Means most text s → ReadsAs result s
 answered_only P fault Means unique meant most text (Ok made) h k s read = read_once P fault Means unique meant most text made s h read
 answered_only P fault Means unique meant most text (Err refusal) h k s read = read_not_refused P fault Means unique most text s refusal read k
 
 pub answered_exactly : {M S : Type 0} (P : List Lexeme → M → Type 0) (fault : M → Option Privilege) (Means : M → S → Type 0) → IsUnique P
     → (most : ℕ) (text : List ℕ) (result : Result S ParseRefusal) → IfOk result (IsRead P fault Means most text)
-    → IfErr result (IsRefused P fault most text) → (wanted : ParseRefusal) → (wanted ≢ NoMemory) → IsRefused P fault most text wanted
-    → Refuses result wanted
+    → IfErr result (IsParseRefusal P fault most text) → (wanted : ParseRefusal) → (wanted ≢ NoMemory) → IsParseRefusal P fault most text wanted
+    → RefusesAs result wanted
 answered_exactly P fault Means unique most text (Ok made) h k wanted some refused =
     some (read_not_refused P fault Means unique most text made wanted h refused)
 answered_exactly P fault Means unique most text (Err refusal) h k wanted some refused =

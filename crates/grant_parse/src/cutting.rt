@@ -1,6 +1,6 @@
 ghost use Rattle.std.specs.Prelude.{◌≡◌, ◌<◌, ◌≤◌, ◌^◌, All, IfErr, IfOk, length};
 ghost use Rattle.grant_lex.specs.Token.{IsCut, IsSpan};
-ghost use Rattle.grant_texts.specs.Texts.{IsTokenRefusal, place_of};
+ghost use Rattle.grant_parse.specs.Texts.{IsTokenRefusal, place_of};
 ghost use Rattle.grant_words.specs.Lexemes.{lexemes_of};
 
 use acl_items::Items;

@@ -3,7 +3,7 @@ use Rattle.std.specs.Prelude.{ℕ, List, codes}
 use Rattle.script_lines.specs.declared.refusal.Which.{Which}
 use Rattle.script_lines.specs.declared.refusal.Which.TheVariants.{Bytes, Lines, Sessions}
 
-abbrev pub counted : Which → List ℕ
-counted Bytes = codes "bytes"
-counted Lines = codes "lines"
-counted Sessions = codes "sessions"
+abbrev pub which_text : Which → List ℕ
+which_text Bytes = codes "bytes"
+which_text Lines = codes "lines"
+which_text Sessions = codes "sessions"
