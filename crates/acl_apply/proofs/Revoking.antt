@@ -16,8 +16,8 @@ use Rattle.acl_stmt.specs.declared.refusal.Refusal.TheVariants.{AccountExists, M
 use Rattle.acl_stmt.specs.declared.statement.Statement.TheVariants.{Revoke, RevokeAll}
 use Rattle.acl_stmt.specs.declared.target.Target.{Target}
 use Rattle.revoke_effects.proofs.Lawful.{given_level, given_names}
-use Rattle.row_lists.proofs.Members.{has, not_both}
-use Rattle.row_lists.specs.Lists.{HasBasis, IsClosed, IsReadyAmong, with_rows, without_rows}
+use Rattle.acl_rows.proofs.RowLists.{has, not_both}
+use Rattle.acl_rows.specs.Lists.{HasBasis, IsClosed, IsReadyAmong, with_rows, without_rows}
 use Rattle.acl_apply.proofs.ByLists.{IsPlain, by_lists, by_one_list, closed_by, names_left}
 use Rattle.acl_apply.specs.Causes.{IsFault}
 use Rattle.acl_apply.specs.Revoked.{IsRevokeCause}

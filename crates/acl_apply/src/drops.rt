@@ -13,9 +13,8 @@ ghost use Rattle.acl_apply.specs.Causes.{IsFault};
 use crate::accounts::{is_mandatory, none_gone, stands};
 use crate::lists::rows_without;
 use acl_names::AuthId;
-use acl_rows::Rows;
+use acl_rows::{Rows, rows_naming_any};
 use acl_stmt::Refusal;
-use row_lists::rows_naming_any;
 use std::alloc::Global;
 
 /// The rows after DROP USER.

@@ -18,8 +18,9 @@ use Rattle.acl_stmt.specs.declared.privileges.PrivList.{PrivList}
 use Rattle.acl_stmt.specs.declared.target.Target.{Target}
 use Rattle.acl_stmt.specs.declared.target.Target.TheVariants as on
 use Rattle.priv_sets.specs.declared.level.Level.TheVariants as level
-use Rattle.revoke_effects.proofs.Listing.{AreRowsOf, below_at, failing_below, found_row, passing_row, row_of}
-use Rattle.revoke_effects.proofs.Named.{named_below}
+use Rattle.acl_rows.proofs.RowLists.{passing_row}
+use Rattle.revoke_effects.proofs.Listing.{AreRowsOf, below_at, failing_below, found_row, row_of}
+use Rattle.acl_rows.proofs.NamedPrivileges.{named_below}
 use Rattle.revoke_effects.specs.Found.{FindsNothing, found_on_function, found_on_procedure, found_on_schema, found_on_table, is_everything, is_found}
 
 not_not : (b : Bool) → not b ≡ false → b ≡ true

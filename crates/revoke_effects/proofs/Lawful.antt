@@ -32,7 +32,7 @@ use Rattle.priv_sets.specs.StaticSet.{holds}
 use Rattle.priv_sets.specs.declared.level.Level.TheVariants as level
 use Rattle.revoke_effects.proofs.Giving.{gives_elsewhere, is_schema}
 use Rattle.revoke_effects.proofs.Listing.{below_at}
-use Rattle.revoke_effects.proofs.Named.{named_below}
+use Rattle.acl_rows.proofs.NamedPrivileges.{named_below}
 use Rattle.revoke_effects.proofs.Taking.{takes_all, takes_at}
 use Rattle.revoke_effects.specs.Given.{is_restriction}
 use Rattle.revoke_effects.specs.Taken.{is_privilege_row, taken_at}

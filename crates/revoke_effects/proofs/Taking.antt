@@ -17,7 +17,8 @@ use Rattle.acl_stmt.specs.declared.target.Target.{Target}
 use Rattle.acl_stmt.specs.declared.target.Target.TheVariants as on
 use Rattle.priv_sets.specs.Levels.{grant_option}
 use Rattle.priv_sets.specs.declared.level.Level.TheVariants as level
-use Rattle.revoke_effects.proofs.Listing.{AreRowsOf, any-filter, lists_more}
+use Rattle.acl_rows.proofs.RowLists.{any-filter}
+use Rattle.revoke_effects.proofs.Listing.{AreRowsOf, lists_more}
 use Rattle.revoke_effects.specs.Taken.{is_privilege_row, taken_at}
 
 moved : (t l n : Bool) → (((t && l) && n) || false) ≡ (l && (t && n))

@@ -9,9 +9,9 @@ ghost use Rattle.acl_rows.specs.Tables.{state_of};
 ghost use Rattle.acl_stmt.specs.declared.statement.Statement.TheVariants.{Revoke, RevokeAll};
 ghost use Rattle.revoke_effects.specs.Taken.{is_privilege_row, taken_at, taken_globally, taken_on_function, taken_on_procedure, taken_on_schema, taken_on_table};
 
-use crate::names::{names_column, names_dynamic, names_static};
+use crate::columns::names_column;
 use acl_names::{AuthId, Ident};
-use acl_rows::{Row, Rows};
+use acl_rows::{Row, Rows, names_dynamic, names_static};
 use acl_stmt::{PrivList, Target};
 use priv_sets::Level;
 use std::alloc::{AllocError, Global};
