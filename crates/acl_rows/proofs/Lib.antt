@@ -1,3 +1,4 @@
+pub mod Below
 pub mod Coming
 pub mod Counting
 pub mod Data

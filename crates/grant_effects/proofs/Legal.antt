@@ -28,6 +28,7 @@ use Rattle.acl_stmt.specs.declared.refusal.Refusal.TheVariants.{NoSuchAccount}
 use Rattle.acl_stmt.specs.declared.statement.Statement.TheVariants.{Grant}
 use Rattle.acl_stmt.specs.declared.target.Target.{Target}
 use Rattle.acl_stmt.specs.declared.target.Target.TheVariants as on
+use Rattle.acl_rows.proofs.Below.{below_at}
 use Rattle.acl_rows.proofs.NamedPrivileges.{dynamic_below, held_below, named_below}
 use Rattle.grant_effects.proofs.Splitting.{gives_split}
 use Rattle.grant_effects.specs.Given.{column_given, dynamic_given, given_of, limit_gives, restriction_given, static_given}
@@ -76,15 +77,6 @@ module _ (limits : List Limit) (privileges : PrivList) (target : Target) (accoun
   given_names (Function a s f p) none given = holder_stands (Function a s f p) none given
   given_names (Procedure a s f p) none given = holder_stands (Procedure a s f p) none given
   given_names (Restriction a p s) none given = holder_stands (Restriction a p s) none given
-
-below_at : (n p : ℕ) (test : ℕ → Bool) → all_below n test ≡ true → p < n → test p ≡ true
-below_at zero p test all within = absurd (omega arith)
-below_at (suc n) p test all within =
-    let parts = and_parts (all_below n test) (test n) all in
-    elim (cases_eq p n) [
-      | inl same ↦ ap test same ∙ parts.1
-      | inr other ↦ below_at n p test parts.0 (omega arith)
-    ]
 
 implied : (a b : Bool) → (not a || b) ≡ true → a ≡ true → b ≡ true
 implied true b either is = either

@@ -19,7 +19,8 @@ use Rattle.acl_stmt.specs.declared.target.Target.{Target}
 use Rattle.acl_stmt.specs.declared.target.Target.TheVariants as on
 use Rattle.priv_sets.specs.declared.level.Level.TheVariants as level
 use Rattle.acl_rows.proofs.RowLists.{passing_row}
-use Rattle.revoke_effects.proofs.Listing.{AreRowsOf, below_at, failing_below, found_row, row_of}
+use Rattle.revoke_effects.proofs.Listing.{AreRowsOf, found_row, row_of}
+use Rattle.acl_rows.proofs.Below.{below_at, failing_below}
 use Rattle.acl_rows.proofs.NamedPrivileges.{named_below}
 use Rattle.revoke_effects.specs.Found.{FindsNothing, found_on_function, found_on_procedure, found_on_schema, found_on_table, is_everything, is_found}
 

@@ -31,7 +31,7 @@ use Rattle.priv_sets.specs.Privileges.{is_global_level}
 use Rattle.priv_sets.specs.StaticSet.{holds}
 use Rattle.priv_sets.specs.declared.level.Level.TheVariants as level
 use Rattle.revoke_effects.proofs.Giving.{gives_elsewhere, is_schema}
-use Rattle.revoke_effects.proofs.Listing.{below_at}
+use Rattle.acl_rows.proofs.Below.{below_at}
 use Rattle.acl_rows.proofs.NamedPrivileges.{named_below}
 use Rattle.revoke_effects.proofs.Taking.{takes_all, takes_at}
 use Rattle.revoke_effects.specs.Given.{is_restriction}

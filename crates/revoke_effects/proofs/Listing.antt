@@ -41,32 +41,6 @@ found_row stands account held are test any =
     let parts = and_parts (stands found.0) (same_auth (holder found.0) account) (sym (are found.0) ∙ found.1) in
     (found.0, found.2, parts.0, equal_from_same_auth (holder found.0) account parts.1)
 
-pub below_at : (limit : ℕ) (test : ℕ → Bool) (n : ℕ) → all_below limit test ≡ true → n < limit → test n ≡ true
-below_at zero test n every below = absurd (omega arith)
-below_at (suc limit) test n every below =
-    let parts = and_parts (all_below limit test) (test limit) every in
-    at (nat_lt n limit) refl (λ lower. below_at limit test n parts.0 lower) parts.1
-  where
-    at : (t : Bool) → nat_lt n limit ≡ t → (n < limit → test n ≡ true) → test limit ≡ true → test n ≡ true
-    at true below_limit before last = before (ltb-true n limit below_limit)
-    at false above before last =
-        let same : n ≡ limit = omega (arith, ltb-false n limit above) in
-        rw same last
-
--- a number below the limit that fails
-pub failing_below : (limit : ℕ) (test : ℕ → Bool) → all_below limit test ≡ false → (n : ℕ) × (n < limit) × (test n ≡ false)
-failing_below zero test fails = cc
-failing_below (suc limit) test fails = at (all_below limit test) refl (failing_below limit test)
-  where
-    at : (t : Bool) → all_below limit test ≡ t → (all_below limit test ≡ false → (n : ℕ) × (n < limit) × (test n ≡ false)) → (n : ℕ) × (n < suc limit) × (test n ≡ false)
-    at true before later =
-        let last : test limit ≡ false = rw before at fails in
-        (limit, omega arith, last)
-    at false before later =
-        let found = later before in
-        let below : found.0 < limit = found.1 in
-        (found.0, omega arith, found.2)
-
 pub none_of_none : {X : Type 0} (P : X → Type 0) → HasNone P []
 none_of_none P [] item later split has = cc
 none_of_none P (first ∷ earlier) item later split has = cc
