@@ -11,7 +11,7 @@ use Rattle.acl_program.specs.declared.cause.Cause.{Cause}
 use Rattle.acl_program.specs.declared.cause.Cause.TheVariants.{Fine, Usage, BadScript, ReadFault, WriteFault, NoMemory, Limit}
 use Rattle.acl_program.specs.declared.input.InputFault.{InputFault}
 use Rattle.acl_program.specs.declared.input.InputFault.TheVariants.{Failed, TooLong, NoMemory as NoMemoryForInput}
-use Rattle.line_reports.specs.declared.report.Report.{Report}
+use Rattle.line_answers.specs.declared.report.Report.{Report}
 use Rattle.grant_refusal.specs.declared.ParseRefusal.{ParseRefusal}
 use Rattle.script_lines.specs.Refusals.{IsAnswered, IsRefused}
 use Rattle.script_lines.specs.declared.refusal.ScriptRefusal.{ScriptRefusal}

@@ -7,7 +7,7 @@ use Rattle.acl_program.specs.Words.{is_step}
 use Rattle.acl_program.specs.declared.cause.Cause.{Cause}
 use Rattle.acl_program.specs.declared.cause.Cause.TheVariants.{Fine, Usage, BadScript, ReadFault, WriteFault, NoMemory, Limit}
 use Rattle.grant_refusal.specs.declared.ParseRefusal.{ParseRefusal}
-use Rattle.line_reports.specs.declared.report.Report.{Report}
+use Rattle.line_answers.specs.declared.report.Report.{Report}
 use Rattle.script_lines.specs.declared.refusal.Which.{Which}
 use Rattle.script_lines.specs.declared.refusal.Which.TheVariants.{Bytes, Lines, Sessions}
 

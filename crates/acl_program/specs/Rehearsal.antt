@@ -1,9 +1,9 @@
 -- What a run of the program is: a script, a legal run of its lines, and the report that tells its answers.
 use Rattle.std.specs.Prelude.{◌≡◌, ℕ, List}
 use Rattle.acl_program.specs.Scripts.{IsScript}
-use Rattle.line_reports.specs.Reports.{sessions_from, told}
-use Rattle.line_reports.specs.declared.report.LineAnswer.{LineAnswer}
-use Rattle.line_reports.specs.declared.report.Report.{Report}
+use Rattle.line_answers.specs.Reports.{sessions_from, told}
+use Rattle.line_answers.specs.declared.report.LineAnswer.{LineAnswer}
+use Rattle.line_answers.specs.declared.report.Report.{Report}
 use Rattle.script_lines.specs.declared.lines.Line.{Line}
 use Rattle.script_read.specs.declared.command.Command.{Command}
 use Rattle.script_run.specs.Told.{IsRun}

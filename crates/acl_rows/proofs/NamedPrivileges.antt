@@ -4,7 +4,8 @@ use Rattle.std.proofs.lemmas.Bool.{and_parts, cases_lt, le-ltb, ltb-true}
 use Rattle.std.proofs.lemmas.Nat.Bits.{bit_at_above}
 use Rattle.std.specs.Int.{bit_at}
 use Rattle.acl_model.specs.Words.{names_dynamic, names_static}
-use Rattle.acl_stmt.specs.Privileges.{are_in_order, is_no_list, is_priv_list}
+use Rattle.acl_stmt.specs.Lists.{is_some_list}
+use Rattle.acl_stmt.specs.Privileges.{are_in_order, is_priv_list}
 use Rattle.acl_stmt.specs.declared.privileges.PrivList.{PrivList}
 use Rattle.priv_sets.proofs.LevelLemmas.{no_level_above}
 use Rattle.priv_sets.specs.Levels.{grant_option, has_level}
@@ -19,7 +20,7 @@ rules : (privileges : PrivList) → (is_known privileges.plain ≡ true) × (pri
 unfolding is_priv_list
 rules privileges =
     let parts = first_two (is_known privileges.plain) (nat_lt privileges.dynamic (2 ^ 20)) (are_in_order privileges.columns)
-    (not privileges.all || bits_of privileges.plain == 0 && is_no_list privileges.columns && privileges.dynamic == 0) privileges.listed in
+    (not privileges.all || bits_of privileges.plain == 0 && not (is_some_list privileges.columns) && privileges.dynamic == 0) privileges.listed in
     (parts.0, ltb-true privileges.dynamic (2 ^ 20) parts.1)
 
 pub known_of : (privileges : PrivList) → is_known privileges.plain ≡ true

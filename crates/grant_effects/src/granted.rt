@@ -11,9 +11,6 @@ use acl_rows::names_static;
 use acl_stmt::{Limit, PrivList, Target};
 use priv_sets::Plain;
 
-// The number of GRANT OPTION.
-const GRANT_OPTION: u8 = 30;
-
 fn is_dynamic_alone(privileges: &PrivList) -> bool
     ensures { result ≡ is_dynamic_alone privileges.now }
 {
@@ -34,7 +31,7 @@ fn gives_option(grant: &GrantParts, number: u8) -> bool
         && gives_grant_option grant.now.privileges.now grant.now.target.now) }
 {
     grant.with_grant_option
-        && number == GRANT_OPTION
+        && number == Plain::grant_option().number()
         && gives_grant_option(grant.privileges, grant.target)
 }
 

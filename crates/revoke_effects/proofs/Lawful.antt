@@ -9,7 +9,7 @@ use Rattle.acl_names.specs.Text.{text_eq}
 use Rattle.acl_names.specs.declared.auth.AuthId.{AuthId}
 use Rattle.acl_model.specs.Effects.{gives, takes}
 use Rattle.acl_model.specs.Refusals.{first_fault, may_revoke, no_account}
-use Rattle.acl_model.specs.Rows.{holder, lists}
+use Rattle.acl_model.specs.Rows.{holder, is_privilege_row, lists}
 use Rattle.acl_model.specs.State.{State, stands}
 use Rattle.acl_model.specs.Words.{names_dynamic, names_static}
 use Rattle.acl_model.specs.declared.row.Row.{Row}
@@ -35,7 +35,7 @@ use Rattle.acl_rows.proofs.Below.{below_at}
 use Rattle.acl_rows.proofs.NamedPrivileges.{named_below}
 use Rattle.revoke_effects.proofs.Taking.{takes_all, takes_at}
 use Rattle.revoke_effects.specs.Given.{is_restriction}
-use Rattle.revoke_effects.specs.Taken.{is_privilege_row, taken_at}
+use Rattle.revoke_effects.specs.Taken.{taken_at}
 
 -- the first of two is none where both together are
 pub first_none : (one other : Option Refusal) → option_or one other ≡ None → one ≡ None

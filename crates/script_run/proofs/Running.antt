@@ -5,7 +5,7 @@ use Rattle.std.specs.List.{All}
 use Rattle.std.proofs.lemmas.List.{get_or-set_same, get_or-set_other, map-append, length-map, take-append-le}
 use Rattle.acl_stmt.specs.declared.entry.Entry.{Entry}
 use Rattle.line_answers.specs.declared.answer.Answer.{Answer}
-use Rattle.line_reports.specs.declared.report.LineAnswer.{LineAnswer}
+use Rattle.line_answers.specs.declared.report.LineAnswer.{LineAnswer}
 use Rattle.script_lines.specs.declared.lines.Line.{Line}
 use Rattle.script_read.specs.declared.command.Command.{Command}
 use Rattle.script_run.specs.Calls.{call_of}

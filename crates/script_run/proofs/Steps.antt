@@ -29,7 +29,7 @@ use Rattle.script_run.specs.Seats.{Answers, IsSound, IsSoundState, Steps, Tries,
 use Rattle.script_run.specs.Seats.Tries.{Accepts, Refuses, Lacks}
 use Rattle.script_run.specs.declared.seat.Seat.{Seat}
 use Rattle.session_check.specs.Session.{StandsFor, UsesSchema, acting_of, points_of, readings_after}
-use Rattle.session_check.specs.declared.points.Points.{Points}
+use Rattle.line_answers.specs.declared.points.Points.{Points}
 use Rattle.session_check.specs.declared.session.SessionState.{SessionState}
 use Rattle.session_rules.specs.Answers.{IsAnswered, IsEntryOf, IsIssued, at_host, check_answer, chosen, goodbye, login_answer, no_right, readings, state_at, state_now, use_answer, verdict_answer}
 use Rattle.session_rules.specs.Sessions.{Acting, Session, after_check, after_connect, after_line, connected, seeing, with_current}

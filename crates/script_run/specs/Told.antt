@@ -1,7 +1,7 @@
 -- What a run of lines tells.
 use Rattle.std.specs.Prelude.{◌≡◌, ℕ, List, [], ◌∷◌, ◌++◌, length, map}
 use Rattle.line_answers.specs.declared.answer.Answer.{Answer}
-use Rattle.line_reports.specs.declared.report.LineAnswer.{LineAnswer}
+use Rattle.line_answers.specs.declared.report.LineAnswer.{LineAnswer}
 use Rattle.script_lines.specs.declared.lines.Line.{Line}
 use Rattle.script_read.specs.declared.command.Command.{Command}
 use Rattle.script_run.specs.Calls.{call_of}

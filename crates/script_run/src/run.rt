@@ -9,8 +9,7 @@ ghost use Rattle.script_run.specs.Told.{IsRun, told_by};
 
 use crate::issue::issue;
 use crate::seat::Seat;
-use line_answers::Answer;
-use line_reports::LineAnswer;
+use line_answers::{Answer, LineAnswer};
 use map_publish::Published;
 use script_read::{Command, Line};
 use std::alloc::{AllocError, Global};

@@ -13,10 +13,10 @@ use crate::denial::denial_of;
 use crate::login::{Entered, log_in};
 use acl_names::{Ident, UserName};
 use acl_stmt::Request;
-use line_answers::{Answer, LineRefusal, LoginRefusal};
+use line_answers::{Answer, LineRefusal, LoginRefusal, Points};
 use map_publish::Published;
 use priv_map::Verdict;
-use session_check::{Points, SessionState};
+use session_check::SessionState;
 use std::alloc::{AllocError, Global};
 
 /// What is stored of a session.

@@ -2,9 +2,9 @@
 use Rattle.std.specs.Prelude.{ℕ, List, [], ◌∷◌, ◌++◌, codes, decimal}
 use Rattle.std.specs.List.{flat_map}
 use Rattle.line_answers.specs.Texts.{answer_text}
-use Rattle.line_reports.specs.declared.report.LineAnswer.{LineAnswer}
-use Rattle.line_reports.specs.declared.report.Report.{Report}
-use Rattle.line_reports.specs.declared.report.SessionReport.{SessionReport}
+use Rattle.line_answers.specs.declared.report.LineAnswer.{LineAnswer}
+use Rattle.line_answers.specs.declared.report.Report.{Report}
+use Rattle.line_answers.specs.declared.report.SessionReport.{SessionReport}
 
 -- an answer to a line of the session with this name, as the report tells it
 abbrev pub told_line : List ℕ → LineAnswer → List ℕ

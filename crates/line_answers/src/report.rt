@@ -1,12 +1,12 @@
 //! What a run answered, session by session.
 ghost use Rattle.std.specs.Prelude.{◌≡◌, ◌<◌, [], IfOk, length, map};
 ghost use Rattle.std.specs.List.{All};
-ghost use Rattle.line_reports.specs.Reports.{sessions_from, told};
+ghost use Rattle.line_answers.specs.Reports.{answers_by_session, sessions_from};
 
+use crate::answer::Answer;
+use crate::points::Points;
 use acl_items::Items;
-use line_answers::Answer;
 use script_lines::SessionName;
-use session_check::Points;
 use std::alloc::{AllocError, Global};
 
 /// The answer to a line, beside the line's number.
@@ -44,7 +44,7 @@ pub fn report_of(
 ) -> Result<Report, AllocError>
     requires seated { All (λ answer. answer.0 < length names) answers.items }
     ensures sessions { IfOk result (λ report.
-        told report.sessions.items ≡ sessions_from 0 names answers.items) }
+        answers_by_session report.sessions.items ≡ sessions_from 0 names answers.items) }
     ensures history { IfOk result (λ report. report.history ≡ history) }
 {
     let mut sessions = unanswered(alloc, names.into_vec())?;
@@ -56,7 +56,7 @@ pub fn report_of(
 }
 
 fn unanswered(alloc: Global, names: Vec<SessionName>) -> Result<Vec<SessionReport>, AllocError>
-    ensures { IfOk result (λ sessions. told sessions.items ≡ map (λ name. (name, [])) names.items) }
+    ensures { IfOk result (λ sessions. answers_by_session sessions.items ≡ map (λ name. (name, [])) names.items) }
 {
     let mut sessions = Vec::with_capacity(alloc, names.len())?;
     for name in names {

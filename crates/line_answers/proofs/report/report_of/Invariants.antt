@@ -1,7 +1,7 @@
 use Rattle.std.specs.Vec.Iter.{into_iter_items}
-use Rattle.line_reports.proofs.Filing.{IsUnderWay}
-use Rattle.line_reports.specs.Reports.{sessions_from}
-use Rattle.line_reports.proofs.report.report_of.Given as goal
+use Rattle.line_answers.proofs.Filing.{IsUnderWay}
+use Rattle.line_answers.specs.Reports.{sessions_from}
+use Rattle.line_answers.proofs.report.report_of.Given as goal
 
 abbrev pub invariant-loop-place : goal.invariant-loop-place
 invariant-loop-place l =

@@ -1,6 +1,6 @@
 use Rattle.std.proofs.Common.{◌∙◌, ap, map, [], refl, arith}
-use Rattle.line_reports.proofs.Filing.{under_way_first, under_way_next, under_way_seated, under_way_last}
-use Rattle.line_reports.proofs.report.report_of.Goals as goal
+use Rattle.line_answers.proofs.Filing.{under_way_first, under_way_next, under_way_seated, under_way_last}
+use Rattle.line_answers.proofs.report.report_of.Goals as goal
 
 pub loop-place-init : goal.loop-place-init
 loop-place-init c = under_way_first _ _ _ _ (c.in_ok-sessions.ensures ∙ ap (map (λ name. (name, []))) c.into_vec.ensures) c.requires.seated (cc)

@@ -1,6 +1,6 @@
 //! The text of a report.
 ghost use Rattle.std.specs.Prelude.{◌≡◌, Some, IfOk, string_bytes};
-ghost use Rattle.line_reports.specs.Texts.{session_text, text_of_report};
+ghost use Rattle.line_answers.specs.ReportTexts.{session_text, text_of_report};
 
 use crate::report::{Report, SessionReport};
 use std::alloc::{AllocError, Global};

@@ -3,9 +3,9 @@ use Rattle.std.proofs.Common.{◌≡◌, ◌≢◌, ℕ, zero, suc, ◌+◌, ◌
 use Rattle.std.specs.List.{All}
 use Rattle.std.proofs.lemmas.Bool.Decides.{nat_tests}
 use Rattle.std.proofs.lemmas.List.{length-map}
-use Rattle.line_reports.specs.Reports.{answers_of_session, sessions_from, told}
-use Rattle.line_reports.specs.declared.report.LineAnswer.{LineAnswer}
-use Rattle.line_reports.specs.declared.report.SessionReport.{SessionReport}
+use Rattle.line_answers.specs.Reports.{answers_by_session, answers_of_session, sessions_from}
+use Rattle.line_answers.specs.declared.report.LineAnswer.{LineAnswer}
+use Rattle.line_answers.specs.declared.report.SessionReport.{SessionReport}
 
 abbrev Placed : Type 0
 Placed = ℕ × LineAnswer
@@ -45,7 +45,7 @@ with_answers-earlier session (first ∷ others) answer answers earlier =
 -- an answer that is filed with its session is one further answer less
 with_answers-filed : (session place : ℕ) (reports : List SessionReport) (old filed : SessionReport) (answer : Placed) (answers : List Placed)
     → answer.0 ≡ session + place → place < length reports → old ≡ get_or reports place old → filed.name ≡ old.name → filed.answers.items ≡ old.answers.items ++ answer.1 ∷ []
-    → with_answers session (told (set reports place filed)) answers ≡ with_answers session (told reports) (answer ∷ answers)
+    → with_answers session (answers_by_session (set reports place filed)) answers ≡ with_answers session (answers_by_session reports) (answer ∷ answers)
 with_answers-filed session place [] old filed answer answers is within read name items = absurd (omega arith)
 with_answers-filed session zero (first ∷ others) old filed answer answers is within read name items =
     let own = answers-own session answer answers (omega arith) in
@@ -53,10 +53,10 @@ with_answers-filed session zero (first ∷ others) old filed answer answers is w
     let same_items : filed.answers.items ≡ first.answers.items ++ answer.1 ∷ [] =
     items ∙ ap (λ (report : SessionReport). report.answers.items ++ answer.1 ∷ []) read in
     let joined : filed.answers.items ++ answers_of_session session answers ≡ first.answers.items ++ answers_of_session session (answer ∷ answers) =
-    ap (λ told. told ++ answers_of_session session answers) same_items
+    ap (λ front. front ++ answers_of_session session answers) same_items
     ∙ append_assoc first.answers.items (answer.1 ∷ []) (answers_of_session session answers)
     ∙ ap (λ more. first.answers.items ++ more) (sym own) in
-    let rest = sym (with_answers-earlier (session + 1) (told others) answer answers (omega arith)) in
+    let rest = sym (with_answers-earlier (session + 1) (answers_by_session others) answer answers (omega arith)) in
     λ i. (same_name i, joined i) ∷ rest i
 with_answers-filed session (suc place) (first ∷ others) old filed answer answers is within read name items =
     let skipped = sym (answers-other session answer answers (omega arith)) in
@@ -65,10 +65,10 @@ with_answers-filed session (suc place) (first ∷ others) old filed answer answe
 -- with these answers the reports tell what is wanted
 pub record IsUnderWay (reports : List SessionReport) (answers : List Placed) (wanted : List (List ℕ × List LineAnswer)) : Type 0 where
   pub seated : All (λ answer. answer.0 < length reports) answers
-  pub told_all : with_answers 0 (told reports) answers ≡ wanted
+  pub told_all : with_answers 0 (answers_by_session reports) answers ≡ wanted
 
 pub under_way_first : (names : List (List ℕ)) (reports : List SessionReport) (answers left : List Placed)
-    → told reports ≡ map (λ name. (name, [])) names → All (λ answer. answer.0 < length names) answers → answers ≡ left → IsUnderWay reports left (sessions_from 0 names answers)
+    → answers_by_session reports ≡ map (λ name. (name, [])) names → All (λ answer. answer.0 < length names) answers → answers ≡ left → IsUnderWay reports left (sessions_from 0 names answers)
 under_way_first names reports answers left unanswered seated answers_left =
     let tell : SessionReport → List ℕ × List LineAnswer = λ report. (report.name, report.answers.items) in
     let start : List ℕ → List ℕ × List LineAnswer = λ name. (name, []) in
@@ -94,6 +94,6 @@ under_way_seated reports all answers answer wanted way are =
     let here : IsUnderWay reports (answer ∷ answers) wanted = subst (λ ls. IsUnderWay reports ls wanted) are way in here.seated 0 answer (omega arith)
 
 pub under_way_last : (reports : List SessionReport) (answers : List Placed) (wanted : List (List ℕ × List LineAnswer))
-    → IsUnderWay reports answers wanted → length answers ≡ 0 → told reports ≡ wanted
-under_way_last reports [] wanted way none = sym (with_answers-none 0 (told reports)) ∙ way.told_all
+    → IsUnderWay reports answers wanted → length answers ≡ 0 → answers_by_session reports ≡ wanted
+under_way_last reports [] wanted way none = sym (with_answers-none 0 (answers_by_session reports)) ∙ way.told_all
 under_way_last reports (answer ∷ answers) wanted way none = absurd (omega arith)
