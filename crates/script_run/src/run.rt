@@ -38,7 +38,7 @@ pub fn run_lines(alloc: Global, sessions: usize, lines: &[Line]) -> Result<Run, 
     for line in lines {
         let seat = &mut seats[line.session as usize];
         let answer = answer(alloc, &mut published, seat, line.session, &line.command);
-        answers.push(told(line.session, line.number, answer, seat))?;
+        answers.push(told_by(line.session, line.number, answer, seat))?;
     }
     Ok(Run {
         answers,
@@ -72,16 +72,16 @@ fn answer(
     }
 }
 
-fn told(session: u32, line: u32, answer: Answer, seat: &Seat) -> (u32, LineAnswer)
+fn told_by(session: u32, line: u32, answer: Answer, seat: &Seat) -> (u32, LineAnswer)
     ensures { result ≡ told_by session line answer seat.now }
 {
-    let told = LineAnswer {
+    let answered = LineAnswer {
         line,
         answer,
         points: seat.points,
         now: seat.seen,
     };
-    (session, told)
+    (session, answered)
 }
 
 fn empty_seats(alloc: Global, count: usize) -> Result<Vec<Seat>, AllocError>
