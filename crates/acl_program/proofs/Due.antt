@@ -5,7 +5,7 @@ use Rattle.acl_program.specs.Causes.{cause_of_fault, cause_of_refusal, cause_so_
 use Rattle.acl_program.specs.Rehearsal.{IsRehearsal}
 use Rattle.acl_program.specs.Endings.{ComesExactly, IsCausedBy, IsDue, IsMade, IsOrEarlier, IsReadFor}
 use Rattle.acl_program.specs.Scripts.{HasScript, IsBadScript, IsTooMuch}
-use Rattle.acl_program.specs.Streams.{IsCutBeyond, IsEndLeft, IsReadWhole}
+use Rattle.acl_program.specs.Streams.{IsCutBeyond, IsEndLeft, IsReadWhole, most_bytes}
 use Rattle.acl_program.specs.Words.{is_step}
 use Rattle.acl_program.specs.declared.cause.Cause.{Cause}
 use Rattle.acl_program.specs.declared.cause.Cause.TheVariants.{Fine, Usage, BadScript, ReadFault, WriteFault, NoMemory, Limit}
