@@ -8,7 +8,7 @@ use Rattle.acl_names.specs.declared.policy.Verifier.{Verifier}
 use Rattle.acl_model.specs.Counts.{IsExceeded}
 use Rattle.acl_stmt.specs.declared.options.AccountOptions.{AccountOptions}
 use Rattle.acl_stmt.specs.declared.refusal.Full.TheVariants as full
-use Rattle.acl_apply.proofs.Limiting.{none_of_none}
+use Rattle.revoke_effects.proofs.Listing.{none_of_none}
 use Rattle.acl_apply.specs.Created.{IsCreateCause, IsCrowded}
 use Rattle.acl_model.specs.Effects.{after, changed}
 use Rattle.acl_stmt.specs.Entries.{are_limits_in_order, is_complete, is_entry, may_have_limits}

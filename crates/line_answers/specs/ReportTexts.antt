@@ -18,10 +18,6 @@ told_lines name answers = flat_map (told_line name) answers
 abbrev pub history_line : ℕ → List ℕ
 history_line history = codes "history " ++ (decimal history ++ 10 ∷ [])
 
--- what was answered to each session, by its name, and the number of accepted statements
-abbrev pub text_of_answers : List (List ℕ × List LineAnswer) → ℕ → List ℕ
-text_of_answers sessions history = flat_map (λ session. told_lines session.0 session.1) sessions ++ history_line history
-
 -- a session of a report
 abbrev pub session_text : SessionReport → List ℕ
 session_text session = told_lines session.name session.answers.items
