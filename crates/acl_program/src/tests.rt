@@ -21,7 +21,7 @@ struct Devices {
     disk: MemoryDisk,
 }
 
-fn devices(alloc: Global, script: &[u8], failing: Failing) -> Result<Devices, Fail> {
+fn memory_devices(alloc: Global, script: &[u8], failing: Failing) -> Result<Devices, Fail> {
     let (mut reads, mut writes, mut tells) = (Vec::new(alloc), Vec::new(alloc), Vec::new(alloc));
     match failing {
         Failing::Nothing => {}
@@ -56,7 +56,7 @@ fn run(alloc: Global, words: &str, script: &[u8], failing: Failing) -> Result<En
         mut out,
         mut err,
         disk,
-    } = devices(alloc, script, failing)?;
+    } = memory_devices(alloc, script, failing)?;
     let served = serve(alloc, &spoken, &mut script, &mut out, &mut err, disk);
     Ok(Ended {
         status: served.status,

@@ -12,7 +12,7 @@ use crate::granted::grants_number;
 use crate::held::is_held;
 use crate::parts::GrantParts;
 use acl_names::AuthId;
-use acl_rows::{Row, Rows};
+use acl_rows::{Row, Rows, names_dynamic};
 use acl_stmt::Target;
 use std::alloc::{AllocError, Global};
 
