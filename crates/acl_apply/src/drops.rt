@@ -10,7 +10,7 @@ ghost use Rattle.acl_stmt.specs.declared.refusal.Refusal.TheVariants.{Mandatory}
 ghost use Rattle.acl_stmt.specs.declared.statement.Statement.TheVariants.{DropUser};
 ghost use Rattle.acl_apply.specs.Causes.{IsWantOrFault};
 
-use crate::accounts::{is_mandatory, none_gone, is_standing};
+use crate::accounts::{is_mandatory, is_standing, none_gone};
 use crate::lists::rows_without;
 use acl_names::AuthId;
 use acl_rows::{Rows, rows_naming_any};

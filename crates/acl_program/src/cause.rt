@@ -86,7 +86,13 @@ pub(crate) fn tell<E: Sink>(err: &mut E, cause: &Cause) -> Result<(), Failed>
         Cause::NoMemory => write_parts(err, &["no memory\n"]),
         Cause::Limit { which, number } => {
             let mut digits = itoa::Buffer::new();
-            let parts = ["limit ", limit_name(which), " ", digits.format(number), "\n"];
+            let parts = [
+                "limit ",
+                limit_name(which),
+                " ",
+                digits.format(number),
+                "\n",
+            ];
             write_parts(err, &parts)
         }
     }

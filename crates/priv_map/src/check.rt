@@ -87,7 +87,10 @@ fn asks_static(request: &Request, privilege: Plain) -> bool
     ensures { result ≡ names_static request.now.privileges (level_of request.now.target) privilege }
 {
     let level = request.target.level();
-    if request.privileges.all && privilege.has_level(level) && privilege.number() != Plain::grant_option().number() {
+    if request.privileges.all
+        && privilege.has_level(level)
+        && privilege.number() != Plain::grant_option().number()
+    {
         return true;
     }
     request.privileges.plain.has(privilege)

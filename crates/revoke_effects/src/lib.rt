@@ -8,7 +8,6 @@ mod columns;
 mod found;
 mod given;
 mod laws;
-
 mod taken;
 
 pub use found::first_without_grant;
