@@ -2,7 +2,7 @@
 use Rattle.std.specs.Prelude.{[], ◌∷◌}
 use Rattle.acl_names.specs.declared.policy.Verifier.{Verifier}
 
--- that of the empty password: the SHA-256 digest of no bytes (`empty_password_is_known` of login_throttle)
+-- that of the empty password: the SHA-256 digest of no bytes (FIPS 180-4)
 abbrev pub empty_verifier : Verifier
 empty_verifier = record {
   0 =

@@ -1,5 +1,7 @@
+pub mod Accounts
 pub mod Chains
 pub mod Characters
+pub mod Lexemes
 pub mod Members
 pub mod PartTexts
 pub mod Printable

@@ -127,14 +127,14 @@ IsFaultOf text (BadByte offset) = HasFault text (BadByte offset)
 IsFaultOf text (Unclosed offset) = HasFault text (Unclosed offset)
 
 -- these tokens, unless memory was wanting
-abbrev pub Answers : Result (List Token) LexRefusal → List Token → Type 0
-Answers (Ok tokens) others = tokens ≡ others
-Answers (Err refusal) others = refusal ≡ NoMemory
+abbrev pub AnswersTokens : Result (List Token) LexRefusal → List Token → Type 0
+AnswersTokens (Ok tokens) others = tokens ≡ others
+AnswersTokens (Err refusal) others = refusal ≡ NoMemory
 
 -- this fault, unless memory was wanting
-abbrev pub Refuses : Result (List Token) LexRefusal → LexRefusal → Type 0
-Refuses (Ok tokens) fault = ⊥
-Refuses (Err refusal) fault = (refusal ≡ fault) ⊎ (refusal ≡ NoMemory)
+abbrev pub AnswersFault : Result (List Token) LexRefusal → LexRefusal → Type 0
+AnswersFault (Ok tokens) fault = ⊥
+AnswersFault (Err refusal) fault = (refusal ≡ fault) ⊎ (refusal ≡ NoMemory)
 
 -- the token is this slice of the text, which may be cut at both ends, and ends where what follows it begins
 pub record IsSpan (text : List ℕ) (token : Token) : Type 0 where

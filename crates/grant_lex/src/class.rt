@@ -1,5 +1,5 @@
 ghost use Rattle.std.specs.Prelude.{◌≡◌};
-ghost use Rattle.grant_lex.specs.Class.{class_of};
+ghost use Rattle.grant_lex.specs.Class.{class_of, is_blank, is_word_byte};
 ghost use Rattle.grant_lex.specs.Next.{IsRun};
 
 /// What a byte may be outside quotes.
@@ -13,12 +13,26 @@ pub(crate) enum Class {
     Other,
 }
 
+/// Whether the byte is a space or a tab.
+pub fn is_blank(byte: u8) -> bool
+    ensures { result ≡ is_blank byte }
+{
+    matches!(byte, b' ' | b'\t')
+}
+
+/// Whether a word may have the byte: a letter, a digit, `_`, `$` or a byte from 0x80.
+pub fn is_word_byte(byte: u8) -> bool
+    ensures { result ≡ is_word_byte byte }
+{
+    byte.is_ascii_alphanumeric() || byte == b'_' || byte == b'$' || byte >= 0x80
+}
+
 pub(crate) fn class_of(byte: u8) -> Class
     ensures { result ≡ class_of byte }
 {
     match byte {
-        b' ' | b'\t' => Class::Blank,
-        b'A'..=b'Z' | b'a'..=b'z' | b'0'..=b'9' | b'_' | b'$' | 0x80.. => Class::Word,
+        _ if is_blank(byte) => Class::Blank,
+        _ if is_word_byte(byte) => Class::Word,
         b'@' | b',' | b'.' | b'(' | b')' | b'*' | b'=' | b';' => Class::Mark,
         b'\'' | b'"' => Class::Quote,
         b'`' => Class::Backquote,

@@ -1,6 +1,6 @@
 ghost use Rattle.std.specs.Prelude.{◌≡◌, ◌+◌, ◌<◌, ◌≤◌, ◌^◌, ℕ, List, [], Some, length, All, IfOk, IfErr};
 ghost use Rattle.grant_lex.specs.Next.{BeginsWithout, IsOf};
-ghost use Rattle.grant_lex.specs.Token.{Answers, AreSpans, Fails, HasFault, IsCut, IsFaultOf, IsSpan, IsStep, Reads, Refuses, StandsAt};
+ghost use Rattle.grant_lex.specs.Token.{AnswersTokens, AreSpans, Fails, HasFault, IsCut, IsFaultOf, IsSpan, IsStep, Reads, AnswersFault, StandsAt};
 ghost use Rattle.grant_lex.specs.declared.class.Class.TheVariants.{Blank};
 ghost use Rattle.grant_lex.specs.declared.refusal.LexRefusal.{LexRefusal};
 ghost use Rattle.grant_lex.specs.declared.sorts.Token.{Token};
@@ -51,7 +51,7 @@ pub fn tokens(alloc: Global, text: &str) -> Result<Items<Token>, LexRefusal>
     requires { length text.now < 2 ^ 32 }
     // The text is cut into the tokens, and into no others.
     ensures found { IfOk result (λ tokens. IsCut text.now tokens) }
-    ensures only { (others : List Token) → IsCut text.now others → Answers result others }
+    ensures only { (others : List Token) → IsCut text.now others → AnswersTokens result others }
 
     // They are slices of the text.
     ensures spans { IfOk result (λ tokens. AreSpans text.now 0 tokens) }
@@ -59,7 +59,7 @@ pub fn tokens(alloc: Global, text: &str) -> Result<Items<Token>, LexRefusal>
 
     // Where the text has no tokens, the refusal names the first fault from the left, and nothing else is refused.
     ensures refused { IfErr result (λ refusal. IsFaultOf text.now refusal) }
-    ensures exact { (fault : LexRefusal) → HasFault text.now fault → Refuses result fault }
+    ensures exact { (fault : LexRefusal) → HasFault text.now fault → AnswersFault result fault }
 {
     cut(alloc, text.as_bytes())
 }

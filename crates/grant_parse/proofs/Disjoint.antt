@@ -9,14 +9,14 @@ use Rattle.acl_names.specs.declared.auth.AuthId.{AuthId}
 use Rattle.acl_stmt.specs.declared.statement.Statement.{Statement}
 use Rattle.acl_stmt.specs.declared.target.Target.{Target}
 use Rattle.grant_parse.specs.Statements.{privilege_rule, user_rule}
-use Rattle.grant_texts.proofs.Disjoint.{free_lacks, lacks, starts, starts_apart, within_is}
-use Rattle.grant_words.specs.Apart.{both_left, both_right, or_first, or_second}
+use Rattle.grant_parse.proofs.Disjointness.{free_lacks, lacks, starts, starts_apart, within_is}
+use Rattle.grant_words.proofs.Apart.{are_apart, both_left, both_right, or_first, or_second}
 use Rattle.grant_words.specs.Classes.{Class, is, word}
 use Rattle.grant_words.specs.Classes.Class.{keyword, mark}
 use Rattle.grant_words.specs.Lists.{comma, roles}
 use Rattle.grant_words.specs.Names.{at_host, ident, role, role_class}
-use Rattle.grant_words.specs.Sanity.{is_of_one, one_apart}
-use Rattle.grant_words.specs.Syntax.{are_apart, grammar_of}
+use Rattle.grant_words.proofs.Sanity.{is_of_one, one_apart}
+use Rattle.grant_words.specs.Syntax.{grammar_of}
 use Rattle.grant_words.specs.declared.lexeme.Lexeme.{Lexeme}
 use Rattle.priv_items.specs.declared.item.Named.{Named}
 use Rattle.priv_sets.specs.DynamicNames.{dynamic_names}
@@ -25,7 +25,7 @@ use Rattle.privilege_statements.specs.PrivilegeItems.{column_names, item, maybe_
 use Rattle.privilege_statements.specs.PrivilegeNames.{alter_names, create_names, create_others, drop_names, dynamic_numbers, lone_numbers, other_name, replication_names, show_names, static_name}
 use Rattle.privilege_statements.specs.Statements.{grant, privilege_statement, privileges_on_target, revoke as revoke_privileges}
 use Rattle.privilege_statements.specs.declared.statement.RawStatement.{RawStatement}
-use Rattle.reserved_words.specs.Reserved.{reserved_words}
+use Rattle.grant_lex.specs.Reserved.{reserved_words}
 use Rattle.user_statements.specs.Statements.{grant_roles, maybe_privileges, on_grants, revoke, revoke_all, revoke_roles, user_statement}
 
 -- ON

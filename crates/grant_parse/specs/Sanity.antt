@@ -1,6 +1,6 @@
 -- One token ahead decides how each rule goes on.
 use Rattle.acl_grammar.specs.Reader.{Sane}
-use Rattle.grant_words.specs.Sanity.{sane}
+use Rattle.grant_words.proofs.Sanity.{sane}
 use Rattle.grant_words.specs.Syntax.{grammar_of}
 use Rattle.grant_parse.specs.Statements.{privilege_rule, semicolon, user_rule}
 use Rattle.account_match.specs.Form.{form_of}
@@ -15,7 +15,7 @@ use Rattle.privilege_statements.specs.PrivilegeItems.{column_names, item, maybe_
 use Rattle.privilege_statements.specs.PrivilegeNames.{alter_names, create_names, create_others, drop_names, dynamic_numbers, lone_numbers, other_name, replication_names, show_names, static_name}
 use Rattle.privilege_statements.specs.Statements.{grant, privilege_statement, privileges_on_target, revoke as granted_revoke, with_grant_option}
 use Rattle.privilege_statements.specs.Targets.{behind_star, dotted, escaped_target, long_target, marked_target, schema_target, star_or_table, target}
-use Rattle.reserved_words.specs.Reserved.{reserved_words}
+use Rattle.grant_lex.specs.Reserved.{reserved_words}
 use Rattle.std.specs.Prelude.{refl}
 use Rattle.std.specs.Str.{chars}
 use Rattle.user_statements.specs.Flags.{if_exists, if_not_exists, with_admin_option}

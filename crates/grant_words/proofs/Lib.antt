@@ -1,2 +1,5 @@
-pub mod Values
+pub mod Apart
 pub mod Mapped
+pub mod Numbers
+pub mod Sanity
+pub mod Values

@@ -5,7 +5,7 @@ use Rattle.std.specs.Str.{str_eq_ignore_ascii_case, str_to_ascii_lowercase}
 use Rattle.acl_names.specs.Name.{ident_fault}
 use Rattle.grant_lex.specs.declared.sorts.Kind.{Kind}
 use Rattle.grant_lex.specs.declared.sorts.Kind.TheVariants.{Word, Quoted, Backquoted, Mark}
-use Rattle.reserved_words.specs.Reserved.{is_reserved}
+use Rattle.grant_lex.specs.Reserved.{is_reserved}
 use Rattle.grant_words.specs.declared.lexeme.Lexeme.{Lexeme}
 
 -- what a value of a class is written as

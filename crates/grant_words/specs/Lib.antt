@@ -1,8 +1,7 @@
-pub mod Apart
 pub mod Classes
 pub mod Lexemes
 pub mod Lists
 pub mod Names
+pub mod Numbers
 pub mod Samples
-pub mod Sanity
 pub mod Syntax

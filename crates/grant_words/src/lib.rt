@@ -10,10 +10,12 @@ mod cut;
 mod lexeme;
 mod lists;
 mod names;
+mod number;
 
 pub use account::{Account, Name, Role};
 pub use class::{Keyword, Mark};
 pub use cut::lexemes;
 pub use lexeme::{Lexeme, TokenValue};
 pub use lists::{accounts, roles};
-pub use names::{Host, Identifier, RoleUser, User};
+pub use names::{Host, Identifier, RoleUser, User, is_identifier_token};
+pub use number::number_of;

@@ -10,8 +10,7 @@ use crate::Lexeme;
 use account_match::{HostPattern, HostRefusal};
 use acl_grammar::TokenClass;
 use acl_names::{HostText, Ident, NameRefusal, UserName};
-use grant_lex::Kind;
-use reserved_words::is_reserved;
+use grant_lex::{Kind, is_reserved};
 use std::alloc::{AllocError, Global};
 
 /// The user of an account, which may be empty.
@@ -141,7 +140,9 @@ fn is_name(token: &Lexeme) -> bool
     }
 }
 
-fn is_identifier_token(token: &Lexeme) -> bool
+/// Whether the token is written as an identifier: as a word that is not reserved, or between backquotes. How long it is
+/// is not asked.
+pub fn is_identifier_token(token: &Lexeme) -> bool
     ensures { result ≡ is_identifier_token token.now.kind token.now.value }
 {
     match token.kind {

@@ -6,12 +6,11 @@ use Rattle.std.specs.Str.{str_to_ascii_lowercase}
 use Rattle.account_match.specs.Form.{form_of}
 use Rattle.acl_names.specs.Name.{name_fault}
 use Rattle.acl_names.specs.declared.auth.AuthId.{AuthId}
-use Rattle.acl_names.specs.declared.host.TheConstants.{HOST_LIMIT}
-use Rattle.acl_names.specs.declared.user.TheConstants.{USER_LIMIT}
 use Rattle.grant_lex.specs.Value.{value_of}
+use Rattle.grant_lex.specs.Class.{is_blank}
 use Rattle.mandatory_roles.specs.Cutting.{Written, behind, host_at, host_behind, name_at, past_name, with_host, written_at}
 use Rattle.mandatory_roles.specs.Roles.{host_of, role_from, role_of, user_of}
-use Rattle.mandatory_roles.specs.Runs.{is_blank, is_host_byte, past_blanks}
+use Rattle.mandatory_roles.specs.Runs.{is_host_byte, past_blanks}
 use Rattle.mandatory_roles.specs.Spelling.{AreBlanks, SpellsAccount, SpellsHost, SpellsName, SpellsPadded, SpellsRole}
 use Rattle.mandatory_roles.proofs.Bytes.{StopsAt, past_exact}
 use Rattle.mandatory_roles.proofs.Pieces.{host_begins, host_exact, host_value, is_name_going, name_begins, name_exact, name_value}
@@ -115,14 +114,14 @@ padded_stands text role tail padded end =
     (account_stands padded.before padded.inner role.user padded.spelled.host padded.behind tail padded.blanks.0 padded.blanks.1 padded.spelled.spelled end)
 
 -- the rules of a role's two names
-user_kept : (user : List ℕ) → user ≢ [] → name_fault USER_LIMIT user ≡ None → user_of user ≡ Some user
+user_kept : (user : List ℕ) → user ≢ [] → name_fault 32 user ≡ None → user_of user ≡ Some user
 user_kept [] some rules = absurd (some refl)
 user_kept (b ∷ bs) some rules = ap (λ o. cond (is_none o) (Some (b ∷ bs)) None) rules
 
 pattern_kept : (t : Bool) (low : List ℕ) → t ≡ true → cond t (Some low) None ≡ Some low
 pattern_kept t low e = ap (λ k. cond k (Some low) None) e
 
-host_kept : (host : List ℕ) → name_fault HOST_LIMIT host ≡ None → is_some (form_of (str_to_ascii_lowercase host)) ≡ true → host_of host ≡ Some (str_to_ascii_lowercase host)
+host_kept : (host : List ℕ) → name_fault 255 host ≡ None → is_some (form_of (str_to_ascii_lowercase host)) ≡ true → host_of host ≡ Some (str_to_ascii_lowercase host)
 host_kept host rules comparable =
     ap (λ o. cond (is_none o && is_some (form_of (str_to_ascii_lowercase host))) (Some (str_to_ascii_lowercase host)) None) rules
     ∙ pattern_kept (is_some (form_of (str_to_ascii_lowercase host))) (str_to_ascii_lowercase host) comparable

@@ -2,9 +2,9 @@
 use Rattle.std.proofs.Common.{◌≡◌, ◌≢◌, ℕ, Bool, true, false, cond, eqb, List, [], ◌∷◌, ◌++◌, refl, ap, ◌∙◌, arith}
 use Rattle.std.proofs.lemmas.Bool.Decides.{nat_tests}
 use Rattle.std.specs.List.{AllByRecursion}
-use Rattle.grant_lex.specs.Class.{class_of}
+use Rattle.grant_lex.specs.Class.{class_of, is_blank, is_word_byte}
 use Rattle.grant_lex.specs.Next.{IsOf}
-use Rattle.mandatory_roles.specs.Runs.{is_blank, is_word_byte, past_run, run_of}
+use Rattle.mandatory_roles.specs.Runs.{past_run, run_of}
 
 pub same_byte : (b : ℕ) → eqb b b ≡ true
 same_byte b = grind (arith, nat_tests)

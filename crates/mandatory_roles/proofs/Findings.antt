@@ -6,13 +6,12 @@ use Rattle.std.specs.Str.{str_to_ascii_lowercase}
 use Rattle.account_match.specs.Form.{form_of}
 use Rattle.acl_names.specs.Name.{name_fault}
 use Rattle.acl_names.specs.declared.auth.AuthId.{AuthId}
-use Rattle.acl_names.specs.declared.host.TheConstants.{HOST_LIMIT}
 use Rattle.acl_names.specs.declared.refusal.NameRefusal.{NameRefusal}
-use Rattle.acl_names.specs.declared.user.TheConstants.{USER_LIMIT}
 use Rattle.grant_lex.specs.Value.{value_of}
+use Rattle.grant_lex.specs.Class.{is_blank}
 use Rattle.mandatory_roles.specs.Cutting.{Cut, Written, behind, host_at, host_behind, is_empty, name_at, past_name, with_host, written_at}
 use Rattle.mandatory_roles.specs.Roles.{is_role_host, is_role_user, role_from, role_of}
-use Rattle.mandatory_roles.specs.Runs.{is_blank, past_blanks, run_of}
+use Rattle.mandatory_roles.specs.Runs.{past_blanks, run_of}
 use Rattle.mandatory_roles.specs.Spelling.{AreBlanks, SpellsAccount, SpellsHost, SpellsName, SpellsRole}
 use Rattle.mandatory_roles.proofs.Accounts.{both_parts}
 use Rattle.mandatory_roles.proofs.Bytes.{is_byte, run_each, run_whole}
@@ -93,8 +92,8 @@ record KeepsRules (user host : List ℕ) (role : AuthId) : Type 0 where
   user_is : role.user ≡ user
   host_is : role.host ≡ str_to_ascii_lowercase host
   some : user ≢ []
-  user_rules : name_fault USER_LIMIT user ≡ None
-  host_rules : name_fault HOST_LIMIT host ≡ None
+  user_rules : name_fault 32 user ≡ None
+  host_rules : name_fault 255 host ≡ None
   comparable : is_some (form_of (str_to_ascii_lowercase host)) ≡ true
 
 no_fault : (o : Option NameRefusal) → is_none o ≡ true → o ≡ None
@@ -112,10 +111,10 @@ rules_test user host role true true e f is =
     record {
       user_is = sym (ap (λ r. r.user) same);
       host_is = sym (ap (λ r. r.host) same);
-      some = not_empty user (first_so (not (is_empty user)) (is_none (name_fault USER_LIMIT user)) e);
-      user_rules = no_fault _ (second_so (not (is_empty user)) (is_none (name_fault USER_LIMIT user)) e);
-      host_rules = no_fault _ (first_so (is_none (name_fault HOST_LIMIT host)) (is_some (form_of (str_to_ascii_lowercase host))) f);
-      comparable = second_so (is_none (name_fault HOST_LIMIT host)) (is_some (form_of (str_to_ascii_lowercase host))) f;
+      some = not_empty user (first_so (not (is_empty user)) (is_none (name_fault 32 user)) e);
+      user_rules = no_fault _ (second_so (not (is_empty user)) (is_none (name_fault 32 user)) e);
+      host_rules = no_fault _ (first_so (is_none (name_fault 255 host)) (is_some (form_of (str_to_ascii_lowercase host))) f);
+      comparable = second_so (is_none (name_fault 255 host)) (is_some (form_of (str_to_ascii_lowercase host))) f;
     }
 rules_test user host role true false e f is = cc
 rules_test user host role false t e f is = cc
@@ -128,7 +127,7 @@ role_found text name place role spelled is =
       spelled = subst (λ u. SpellsAccount text u (value_of place)) (sym rules.user_is) spelled;
       lowered = rules.host_is;
       some = λ none. rules.some (sym rules.user_is ∙ none);
-      user_rules = ap (name_fault USER_LIMIT) rules.user_is ∙ rules.user_rules;
+      user_rules = ap (name_fault 32) rules.user_is ∙ rules.user_rules;
       host_rules = rules.host_rules;
       comparable = ap (λ l. is_some (form_of l)) rules.host_is ∙ rules.comparable;
     }

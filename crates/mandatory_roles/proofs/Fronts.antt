@@ -4,7 +4,8 @@ use Rattle.std.specs.List.{prefix_len}
 use Rattle.std.proofs.lemmas.Bool.Decides.{nat_tests}
 use Rattle.std.proofs.lemmas.List.Sums.{prefix_len-le-length, prefix_len_passes, prefix_len_stops}
 use Rattle.std.proofs.lemmas.Str.{IsCharBoundary-after_ascii, IsCharBoundary-start}
-use Rattle.mandatory_roles.specs.Runs.{has, is_blank, is_host_byte, is_word_byte, past_run, run_of}
+use Rattle.grant_lex.specs.Class.{is_blank, is_word_byte}
+use Rattle.mandatory_roles.specs.Runs.{has, is_host_byte, past_run, run_of}
 use Rattle.mandatory_roles.specs.declared.runs.Run.{Run}
 use Rattle.mandatory_roles.specs.declared.runs.Run.TheVariants.{Blanks, Word, Host}
 

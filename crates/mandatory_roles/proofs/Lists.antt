@@ -1,10 +1,9 @@
 -- The roles in a text are those that it spells.
-use Rattle.std.proofs.Common.{◌≡◌, ◌≢◌, ℕ, zero, suc, ◌+◌, ◌≤◌, Bool, true, false, cond, eqb, List, [], ◌∷◌, ◌++◌, Option, Some, None, option_map, length, refl, sym, subst, ap, ◌∙◌, arith, append-nil}
+use Rattle.std.proofs.Common.{◌≡◌, ◌≢◌, ℕ, zero, suc, ◌+◌, ◌≤◌, Bool, true, false, cond, eqb, List, [], ◌∷◌, ◌++◌, Option, Some, None, option_map, Result, Ok, Err, IfOk, length, refl, sym, subst, ap, ◌∙◌, arith, append-nil}
 use Rattle.acl_names.specs.declared.auth.AuthId.{AuthId}
 use Rattle.mandatory_roles.specs.Cutting.{Written, written_at}
 use Rattle.mandatory_roles.specs.Roles.{role_of, roles_behind, roles_in, roles_up_to, with_role, with_written}
-use Rattle.mandatory_roles.specs.Spelling.{SpellsPadded, SpellsRoles}
-use Rattle.mandatory_roles.specs.declared.read.TheConstants.{ROLE_LIMIT}
+use Rattle.mandatory_roles.specs.Spelling.{IsReadAs, SpellsPadded, SpellsRoles}
 use Rattle.mandatory_roles.proofs.Accounts.{IsEnd, padded_stands, role_kept}
 use Rattle.mandatory_roles.proofs.Bytes.{is_byte}
 use Rattle.mandatory_roles.proofs.Findings.{IsWritten, IsWrittenAt, role_found, written_found}
@@ -86,7 +85,7 @@ up_to_found (suc n) text =
     subst (IsList (suc n) text) (sym (some_up_to n text)) (written_then n text (written_at text) (written_found text) (up_to_found n))
 
 -- the whole text
-in_is : (b : ℕ) (bs : List ℕ) → roles_in (b ∷ bs) ≡ roles_up_to ROLE_LIMIT (b ∷ bs)
+in_is : (b : ℕ) (bs : List ℕ) → roles_in (b ∷ bs) ≡ roles_up_to 4096 (b ∷ bs)
 unfolding roles_in
 in_is b bs = refl
 
@@ -102,17 +101,17 @@ some_text role roles spelled =
     let clash : None ≡ Some (role ∷ roles) = sym none ∙ found in
     cc
 
-pub in_found : (text : List ℕ) (roles : List AuthId) → roles_in text ≡ Some roles → SpellsRoles text roles × (length roles ≤ ROLE_LIMIT)
+pub in_found : (text : List ℕ) (roles : List AuthId) → roles_in text ≡ Some roles → SpellsRoles text roles × (length roles ≤ 4096)
 in_found [] [] is = (refl, omega arith)
 in_found [] (role ∷ roles) is = let clash : Some [] ≡ Some (role ∷ roles) = sym read_nothing ∙ is in cc
 in_found (b ∷ bs) roles is =
-    let found = subst (IsList ROLE_LIMIT (b ∷ bs)) (sym (in_is b bs) ∙ is) (up_to_found ROLE_LIMIT (b ∷ bs)) in
+    let found = subst (IsList 4096 (b ∷ bs)) (sym (in_is b bs) ∙ is) (up_to_found 4096 (b ∷ bs)) in
     (found.spelled, found.few)
 
-pub in_only : (text : List ℕ) (roles : List AuthId) → SpellsRoles text roles → length roles ≤ ROLE_LIMIT → roles_in text ≡ Some roles
+pub in_only : (text : List ℕ) (roles : List AuthId) → SpellsRoles text roles → length roles ≤ 4096 → roles_in text ≡ Some roles
 in_only text [] spelled few = ap roles_in spelled ∙ read_nothing
 in_only [] (role ∷ roles) spelled few = absurd (some_text role roles spelled)
-in_only (b ∷ bs) (role ∷ roles) spelled few = in_is b bs ∙ up_to_spelled ROLE_LIMIT (b ∷ bs) role roles spelled few
+in_only (b ∷ bs) (role ∷ roles) spelled few = in_is b bs ∙ up_to_spelled 4096 (b ∷ bs) role roles spelled few
 
 pub spelled_same : (text : List ℕ) (roles others : List AuthId) → SpellsRoles text roles → SpellsRoles text others → roles ≡ others
 spelled_same text [] [] a b = refl
@@ -124,3 +123,24 @@ spelled_same text (role ∷ roles) (other ∷ others) a b =
     let two : roles_up_to n text ≡ Some (other ∷ others) = up_to_spelled n text other others b (omega arith) in
     let same : Some (role ∷ roles) ≡ Some (other ∷ others) = sym one ∙ two in
     cc
+
+-- what is computed is what is spelled, and the other way round
+pub in_spelled : (text : List ℕ) (o : Option (List AuthId)) → o ≡ roles_in text → IsReadAs text o
+in_spelled text (Some roles) is = in_found text roles (sym is)
+in_spelled text None is = λ roles spelled few. let clash : None ≡ Some roles = is ∙ in_only text roles spelled few in cc
+
+pub spelled_in : (text : List ℕ) (o : Option (List AuthId)) → IsReadAs text o → o ≡ roles_in text
+spelled_in text (Some roles) is = sym (in_only text roles is.0 is.1)
+spelled_in text None none = by_cases (roles_in text) refl
+  where
+    by_cases : (o : Option (List AuthId)) → roles_in text ≡ o → None ≡ roles_in text
+    by_cases None e = sym e
+    by_cases (Some roles) e = let found = in_found text roles e in absurd (none roles found.0 found.1)
+
+pub ok_spelled : {E : Type 0} (text : List ℕ) (r : Result (Option (List AuthId)) E) → IfOk r (λ o. o ≡ roles_in text) → IfOk r (λ o. IsReadAs text o)
+ok_spelled text (Ok o) is = in_spelled text o is
+ok_spelled text (Err _) is = is
+
+pub ok_in : {E : Type 0} (text : List ℕ) (r : Result (Option (List AuthId)) E) → IfOk r (λ o. IsReadAs text o) → IfOk r (λ o. o ≡ roles_in text)
+ok_in text (Ok o) is = spelled_in text o is
+ok_in text (Err _) is = is

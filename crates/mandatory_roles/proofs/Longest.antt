@@ -5,8 +5,6 @@ use Rattle.std.proofs.lemmas.Str.{encodes-chars, len_utf8_bounds, length-encode}
 use Rattle.std.specs.Char.{encode_utf8, is_ascii_control}
 use Rattle.acl_names.specs.Name.{control_fault, length_fault, name_fault}
 use Rattle.acl_names.specs.declared.refusal.NameRefusal.{NameRefusal}
-use Rattle.acl_names.specs.declared.host.TheConstants.{HOST_LIMIT}
-use Rattle.acl_names.specs.declared.user.TheConstants.{USER_LIMIT}
 use Rattle.mandatory_roles.specs.Roles.{host_of, user_of}
 use Rattle.mandatory_roles.specs.Cutting.{is_empty}
 use Rattle.acl_names.specs.declared.refusal.NameRefusal.TheVariants.{TooLong}
@@ -41,8 +39,8 @@ fails_both : {A : Type 0} (a b : Bool) (x : A) → b ≡ false → None ≡ cond
 fails_both true b x e = rw e refl
 fails_both false b x e = refl
 
-pub no_user_long : (name : List ℕ) → IsUtf8 name → 4 * USER_LIMIT < length name → None ≡ user_of name
-no_user_long name utf8 long = fails_both (not (is_empty name)) (is_none (name_fault USER_LIMIT name)) name (long_name USER_LIMIT name utf8 long)
+pub no_user_long : (name : List ℕ) → IsUtf8 name → 4 * 32 < length name → None ≡ user_of name
+no_user_long name utf8 long = fails_both (not (is_empty name)) (is_none (name_fault 32 name)) name (long_name 32 name utf8 long)
 
 not_zero : (n : ℕ) → eqb (suc n) 0 ≡ true → ⊥
 not_zero n e = grind (arith, nat_tests)
@@ -57,5 +55,5 @@ no_user_empty name none = sym (ap user_of (empty_text name none))
 fails_first : {A : Type 0} (a b : Bool) (x : A) → a ≡ false → None ≡ cond (a && b) (Some x) None
 fails_first a b x e = rw e refl
 
-pub no_host_long : (host : List ℕ) → IsUtf8 host → 4 * HOST_LIMIT < length host → None ≡ host_of host
-no_host_long host utf8 long = fails_first (is_none (name_fault HOST_LIMIT host)) _ _ (long_name HOST_LIMIT host utf8 long)
+pub no_host_long : (host : List ℕ) → IsUtf8 host → 4 * 255 < length host → None ≡ host_of host
+no_host_long host utf8 long = fails_first (is_none (name_fault 255 host)) _ _ (long_name 255 host utf8 long)

@@ -4,7 +4,6 @@ use Rattle.std.proofs.lemmas.Bool.{true≢false}
 use Rattle.acl_names.specs.declared.auth.AuthId.{AuthId}
 use Rattle.mandatory_roles.specs.Cutting.{Written, behind, written_at}
 use Rattle.mandatory_roles.specs.Roles.{role_of, roles_behind, roles_in, roles_up_to, with_role, with_written}
-use Rattle.mandatory_roles.specs.declared.read.TheConstants.{ROLE_LIMIT}
 
 pub none_up_to : (text : List ℕ) → roles_up_to 0 text ≡ None
 unfolding roles_up_to
@@ -26,11 +25,11 @@ put_before front = option_map (λ roles. front ++ roles)
 
 -- after i names these roles are read, and this rest of the text is left
 abbrev pub IsReadSoFar : List ℕ → ℕ → List AuthId → List ℕ → Type 0
-IsReadSoFar text i roles rest = roles_in text ≡ put_before roles (roles_up_to (ROLE_LIMIT - i) rest)
+IsReadSoFar text i roles rest = roles_in text ≡ put_before roles (roles_up_to (4096 - i) rest)
 
 pub read_start : (b : ℕ) (bs : List ℕ) → IsReadSoFar (b ∷ bs) 0 [] (b ∷ bs)
 unfolding roles_in
-read_start b bs = elim (roles_up_to ROLE_LIMIT (b ∷ bs)) as (λ o. o ≡ put_before [] o) [ None ↦ refl | Some roles ↦ refl ]
+read_start b bs = elim (roles_up_to 4096 (b ∷ bs)) as (λ o. o ≡ put_before [] o) [ None ↦ refl | Some roles ↦ refl ]
 
 pub read_begins : (text : List ℕ) (roles : List AuthId) → eqb (length text) 0 ≡ false → roles ≡ [] → IsReadSoFar text 0 roles text
 read_begins [] roles some none = absurd (true≢false some)
@@ -61,36 +60,36 @@ put_role roles role None = refl
 put_role roles role (Some others) = ap Some (sym (append_assoc roles (role ∷ []) others))
 
 module _ (text : List ℕ) (i : ℕ) (roles : List AuthId) (rest : List ℕ) (so_far : IsReadSoFar text i roles rest) where
-  step : i < ROLE_LIMIT → (o : Option Written) → o ≡ written_at rest → roles_in text ≡ put_before roles (with_written (roles_up_to (ROLE_LIMIT - (i + 1))) o)
+  step : i < 4096 → (o : Option Written) → o ≡ written_at rest → roles_in text ≡ put_before roles (with_written (roles_up_to (4096 - (i + 1))) o)
   step within o is =
-      let less : ROLE_LIMIT - i - 1 ≡ ROLE_LIMIT - (i + 1) = omega arith in
-      so_far ∙ ap (put_before roles) (up_to_positive (ROLE_LIMIT - i) rest (omega arith) ∙ ap (λ k. with_written (roles_up_to k) (written_at rest)) less ∙ ap (with_written (roles_up_to (ROLE_LIMIT - (i + 1)))) (sym is))
+      let less : 4096 - i - 1 ≡ 4096 - (i + 1) = omega arith in
+      so_far ∙ ap (put_before roles) (up_to_positive (4096 - i) rest (omega arith) ∙ ap (λ k. with_written (roles_up_to k) (written_at rest)) less ∙ ap (with_written (roles_up_to (4096 - (i + 1)))) (sym is))
 
-  pub read_none : i < ROLE_LIMIT → None ≡ written_at rest → None ≡ roles_in text
+  pub read_none : i < 4096 → None ≡ written_at rest → None ≡ roles_in text
   read_none within is = sym (step within None is)
 
-  pub read_all : ROLE_LIMIT ≤ i → None ≡ roles_in text
+  pub read_all : 4096 ≤ i → None ≡ roles_in text
   read_all all =
-      let none : ROLE_LIMIT - i ≡ 0 = omega arith in
+      let none : 4096 - i ≡ 0 = omega arith in
       sym (so_far ∙ ap (put_before roles) (ap (λ k. roles_up_to k rest) none ∙ none_up_to rest))
 
-  module _ (name host left : List ℕ) (within : i < ROLE_LIMIT) (written : Some (let w : Written = record { name = name; host = host; rest = left } in w) ≡ written_at rest) where
-    role_step : (o : Option AuthId) → o ≡ role_of name host → roles_in text ≡ put_before roles (with_role (roles_up_to (ROLE_LIMIT - (i + 1))) left o)
-    role_step o is = step within _ written ∙ ap (λ r. put_before roles (with_role (roles_up_to (ROLE_LIMIT - (i + 1))) left r)) (sym is)
+  module _ (name host left : List ℕ) (within : i < 4096) (written : Some (let w : Written = record { name = name; host = host; rest = left } in w) ≡ written_at rest) where
+    role_step : (o : Option AuthId) → o ≡ role_of name host → roles_in text ≡ put_before roles (with_role (roles_up_to (4096 - (i + 1))) left o)
+    role_step o is = step within _ written ∙ ap (λ r. put_before roles (with_role (roles_up_to (4096 - (i + 1))) left r)) (sym is)
 
     pub read_no_role : None ≡ role_of name host → None ≡ roles_in text
     read_no_role is = sym (role_step None is)
 
     pub read_last : (role : AuthId) → Some role ≡ role_of name host → left ≡ [] → Some (roles ++ role ∷ []) ≡ roles_in text
     read_last role is ends =
-        sym (role_step (Some role) is ∙ ap (λ l. put_before roles (with_role (roles_up_to (ROLE_LIMIT - (i + 1))) l (Some role))) ends)
+        sym (role_step (Some role) is ∙ ap (λ l. put_before roles (with_role (roles_up_to (4096 - (i + 1))) l (Some role))) ends)
 
     pub read_stop : (role : AuthId) → Some role ≡ role_of name host → eqb (length left) 0 ≡ false → None ≡ behind 44 left → None ≡ roles_in text
     read_stop role is goes_on no_comma =
-        sym (role_step (Some role) is ∙ ap (λ o. put_before roles (option_map (λ others. role ∷ others) o)) (behind_none (roles_up_to (ROLE_LIMIT - (i + 1))) left goes_on no_comma))
+        sym (role_step (Some role) is ∙ ap (λ o. put_before roles (option_map (λ others. role ∷ others) o)) (behind_none (roles_up_to (4096 - (i + 1))) left goes_on no_comma))
 
     pub read_more : (role : AuthId) (more : List ℕ) → Some role ≡ role_of name host → Some more ≡ behind 44 left → IsReadSoFar text (i + 1) (roles ++ role ∷ []) more
     read_more role more is comma =
         role_step (Some role) is
-        ∙ ap (λ o. put_before roles (option_map (λ others. role ∷ others) o)) (behind_some (roles_up_to (ROLE_LIMIT - (i + 1))) left more comma)
-        ∙ put_role roles role (roles_up_to (ROLE_LIMIT - (i + 1)) more)
+        ∙ ap (λ o. put_before roles (option_map (λ others. role ∷ others) o)) (behind_some (roles_up_to (4096 - (i + 1))) left more comma)
+        ∙ put_role roles role (roles_up_to (4096 - (i + 1)) more)

@@ -3,11 +3,11 @@ use Rattle.std.proofs.Common.{◌≡◌, ◌≢◌, ℕ, Bool, true, false, cond
 use Rattle.std.proofs.lemmas.Bool.Decides.{nat_tests}
 use Rattle.std.specs.List.{AllByRecursion}
 use Rattle.acl_names.specs.Quoted.{doubled, quoted}
-use Rattle.grant_lex.specs.Class.{is_quote}
+use Rattle.grant_lex.specs.Class.{is_blank, is_quote, is_word_byte}
 use Rattle.grant_lex.specs.Value.{inside_value, value_of}
-use Rattle.reserved_words.specs.Reserved.{is_reserved}
+use Rattle.grant_lex.specs.Reserved.{is_reserved}
 use Rattle.mandatory_roles.specs.Cutting.{Cut, byte_before, closed_at, host_at, is_empty, name_at, plain_host_at, quoted_at, word_at}
-use Rattle.mandatory_roles.specs.Runs.{is_blank, is_host_byte, is_word_byte, past_run, run_of}
+use Rattle.mandatory_roles.specs.Runs.{is_host_byte, past_run, run_of}
 use Rattle.mandatory_roles.specs.Spelling.{IsFreeWord, IsPlainHost, SpellsHost, SpellsName}
 use Rattle.mandatory_roles.proofs.Bytes.{StopsAt, class_from_word, each_from, is_byte, past_exact, run_each, run_exact, run_whole, word_from_class}
 use Rattle.mandatory_roles.proofs.Closings.{BeginsOther}

@@ -8,7 +8,6 @@ use Rattle.acl_names.specs.declared.auth.AuthId.{AuthId}
 use Rattle.mandatory_roles.specs.Roles.{roles_in}
 use Rattle.mandatory_roles.specs.Spelling.{SpellsPadded, SpellsRole, SpellsRoles}
 use Rattle.mandatory_roles.specs.Text.{IsRole, roles_text}
-use Rattle.mandatory_roles.specs.declared.read.TheConstants.{ROLE_LIMIT}
 use Rattle.mandatory_roles.proofs.Lists.{in_only}
 
 role_written : (role : AuthId) → IsRole role → SpellsRole (auth_text role) role
@@ -38,5 +37,5 @@ roles_written (role ∷ []) each = padded role each.0
 roles_written (role ∷ second ∷ roles) each =
     (auth_text role, roles_text (second ∷ roles), refl, padded role each.0, roles_written (second ∷ roles) each.1)
 
-pub written_read : (roles : List AuthId) → AllByRecursion IsRole roles → length roles ≤ ROLE_LIMIT → roles_in (roles_text roles) ≡ Some roles
+pub written_read : (roles : List AuthId) → AllByRecursion IsRole roles → length roles ≤ 4096 → roles_in (roles_text roles) ≡ Some roles
 written_read roles each few = in_only (roles_text roles) roles (roles_written roles each) few

@@ -1,7 +1,8 @@
 -- The first role of a list, as it is written.
 use Rattle.std.specs.Prelude.{◌≡◌, ℕ, Bool, true, false, ◌==◌, ◌||◌, if◌then◌else◌, List, [], ◌∷◌, Option, Some, None, option_map, option_and_then, codes, refl}
-use Rattle.reserved_words.specs.Reserved.{is_reserved, reserved_words}
-use Rattle.mandatory_roles.specs.Runs.{is_host_byte, is_word_byte, past_blanks, past_run, run_of}
+use Rattle.grant_lex.specs.Reserved.{is_reserved, reserved_words}
+use Rattle.grant_lex.specs.Class.{is_word_byte}
+use Rattle.mandatory_roles.specs.Runs.{is_host_byte, past_blanks, past_run, run_of}
 
 -- a text in two parts
 pub record Cut : Type 0 where

@@ -1,23 +1,20 @@
--- The roles that a text spells. MySQL 8.0 Reference Manual, "mandatory_roles" and "Specifying Role Names".
+-- The roles in a text, as a function from left to right: by law those that the text spells.
 use Rattle.std.specs.Prelude.{◌≡◌, ℕ, zero, suc, Bool, ◌==◌, ◌&&◌, is_some, is_none, not, if◌then◌else◌, List, [], ◌∷◌, Option, Some, None, option_map, codes, refl}
 use Rattle.std.specs.Str.{chars, str_to_ascii_lowercase}
 use Rattle.account_match.specs.Form.{form_of}
 use Rattle.acl_names.specs.Name.{name_fault}
 use Rattle.acl_names.specs.declared.auth.AuthId.{AuthId}
-use Rattle.acl_names.specs.declared.host.TheConstants.{HOST_LIMIT}
-use Rattle.acl_names.specs.declared.user.TheConstants.{USER_LIMIT}
 use Rattle.grant_lex.specs.Value.{value_of, inside_value}
-use Rattle.reserved_words.specs.Reserved.{reserved_words}
+use Rattle.grant_lex.specs.Reserved.{reserved_words}
 use Rattle.mandatory_roles.specs.Cutting.{Written, closed_at, is_empty, written_at}
-use Rattle.mandatory_roles.specs.declared.read.TheConstants.{ROLE_LIMIT}
 
 -- within the rules of users, and not empty
 abbrev pub is_role_user : List ℕ → Bool
-is_role_user user = not (is_empty user) && is_none (name_fault USER_LIMIT user)
+is_role_user user = not (is_empty user) && is_none (name_fault 32 user)
 
 -- within the rules of hosts, and in lower case a host that can be compared with clients
 abbrev pub is_role_host : List ℕ → Bool
-is_role_host host = is_none (name_fault HOST_LIMIT host) && is_some (form_of (str_to_ascii_lowercase host))
+is_role_host host = is_none (name_fault 255 host) && is_some (form_of (str_to_ascii_lowercase host))
 
 abbrev pub user_of : List ℕ → Option (List ℕ)
 user_of user = if is_role_user user then Some user else None
@@ -56,7 +53,7 @@ roles_up_to (suc n) text = with_written (roles_up_to n) (written_at text)
 -- the roles that the text spells; the empty text spells none of them, and is a list as well
 unfoldable pub roles_in : List ℕ → Option (List AuthId)
 roles_in [] = Some []
-roles_in (b ∷ bs) = roles_up_to ROLE_LIMIT (b ∷ bs)
+roles_in (b ∷ bs) = roles_up_to 4096 (b ∷ bs)
 
 example-two : roles_in (codes "r1,r3@%.Example.com") ≡ Some (record { user = codes "r1"; host = codes "%" } ∷ record { user = codes "r3"; host = codes "%.example.com" } ∷ [])
 unfolding roles_in roles_up_to written_at closed_at reserved_words form_of chars

@@ -1,16 +1,8 @@
 -- Fronts of a text whose bytes are all of one sort.
-use Rattle.std.specs.Prelude.{ℕ, Bool, not, ◌==◌, ◌||◌, if◌then◌else◌, nat_le, List, [], ◌∷◌}
-use Rattle.std.specs.Char.{is_ascii_alphanumeric}
+use Rattle.std.specs.Prelude.{ℕ, Bool, not, ◌==◌, ◌||◌, if◌then◌else◌, List, [], ◌∷◌}
+use Rattle.grant_lex.specs.Class.{is_blank, is_word_byte}
 use Rattle.mandatory_roles.specs.declared.runs.Run.{Run}
 use Rattle.mandatory_roles.specs.declared.runs.Run.TheVariants.{Blanks, Word, Host}
-
--- space and tab
-abbrev pub is_blank : ℕ → Bool
-is_blank b = b == 32 || b == 9
-
--- letters, digits, `_`, `$` and bytes past ASCII
-abbrev pub is_word_byte : ℕ → Bool
-is_word_byte b = is_ascii_alphanumeric b || b == 95 || b == 36 || nat_le 0x80 b
 
 -- any byte but a comma and the blanks
 abbrev pub is_host_byte : ℕ → Bool

@@ -1,18 +1,16 @@
 -- What a text that lists roles looks like. MySQL 8.0 Reference Manual, "mandatory_roles" and "Specifying Role Names".
-use Rattle.std.specs.Prelude.{◌≡◌, ◌≢◌, ◌⊎◌, ℕ, true, false, List, [], ◌∷◌, ◌++◌, None, IsSome, codes}
+use Rattle.std.specs.Prelude.{◌≡◌, ◌≢◌, ◌⊎◌, ◌≤◌, ℕ, true, false, List, [], ◌∷◌, ◌++◌, length, Option, Some, None, IsSome, codes}
 use Rattle.std.specs.List.{AllByRecursion}
 use Rattle.std.specs.Str.{str_to_ascii_lowercase}
 use Rattle.account_match.specs.Form.{form_of}
 use Rattle.acl_names.specs.Name.{name_fault}
 use Rattle.acl_names.specs.Quoted.{quoted}
 use Rattle.acl_names.specs.declared.auth.AuthId.{AuthId}
-use Rattle.acl_names.specs.declared.host.TheConstants.{HOST_LIMIT}
-use Rattle.acl_names.specs.declared.user.TheConstants.{USER_LIMIT}
-use Rattle.grant_lex.specs.Class.{is_quote}
+use Rattle.grant_lex.specs.Class.{is_blank, is_quote}
 use Rattle.grant_lex.specs.Next.{BeginsWithout}
 use Rattle.grant_lex.specs.Token.{IsWord}
-use Rattle.reserved_words.specs.Reserved.{is_reserved}
-use Rattle.mandatory_roles.specs.Runs.{is_blank, is_host_byte}
+use Rattle.grant_lex.specs.Reserved.{is_reserved}
+use Rattle.mandatory_roles.specs.Runs.{is_host_byte}
 
 -- spaces and tabs, or nothing
 abbrev pub AreBlanks : List ℕ → Type 0
@@ -57,8 +55,8 @@ pub record SpellsRole (text : List ℕ) (role : AuthId) : Type 0 where
   pub spelled : SpellsAccount text role.user host
   pub lowered : role.host ≡ str_to_ascii_lowercase host
   pub some : role.user ≢ []
-  pub user_rules : name_fault USER_LIMIT role.user ≡ None
-  pub host_rules : name_fault HOST_LIMIT host ≡ None
+  pub user_rules : name_fault 32 role.user ≡ None
+  pub host_rules : name_fault 255 host ≡ None
   pub comparable : IsSome (form_of role.host)
 
 -- a role with blanks round it, or none
@@ -76,3 +74,8 @@ SpellsRoles text [] = text ≡ []
 SpellsRoles text (role ∷ []) = SpellsPadded text role
 SpellsRoles text (role ∷ second ∷ roles) =
     (first : List ℕ) × (others : List ℕ) × (text ≡ first ++ (codes "," ++ others)) × SpellsPadded first role × SpellsRoles others (second ∷ roles)
+
+-- the roles that the text spells, which are at most 4,096; or none, and then it spells no such list
+abbrev pub IsReadAs : List ℕ → Option (List AuthId) → Type 0
+IsReadAs text (Some roles) = SpellsRoles text roles × (length roles ≤ 4096)
+IsReadAs text None = (roles : List AuthId) → SpellsRoles text roles → length roles ≤ 4096 → ⊥

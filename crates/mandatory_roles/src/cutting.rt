@@ -3,7 +3,7 @@ ghost use Rattle.std.specs.Option.{option_copied};
 ghost use Rattle.mandatory_roles.specs.Cutting.{behind, begins, closed_at, host_at, name_at, plain_host_at, quoted_at, word_at, written_at};
 
 use crate::runs::{Run, past_blanks, split_run};
-use reserved_words::is_reserved;
+use grant_lex::is_reserved;
 
 /// A role as it is written: its name, its host, which is `%` where none stands, and what follows
 /// them and the blanks behind them.

@@ -2,6 +2,7 @@ ghost use Rattle.std.specs.Prelude.{◌≡◌, is_some, IfOk};
 ghost use Rattle.account_match.specs.Form.{form_of};
 ghost use Rattle.grant_lex.specs.Value.{value_of};
 ghost use Rattle.mandatory_roles.specs.Roles.{host_of, role_of, roles_in, user_of};
+ghost use Rattle.mandatory_roles.specs.Spelling.{IsReadAs};
 
 use crate::cutting::{behind, written_at};
 use account_match::{HostPattern, HostRefusal};
@@ -17,6 +18,13 @@ pub const ROLE_LIMIT: usize = 4096;
 ///
 /// MySQL 8.0 Reference Manual, "mandatory_roles" and "Specifying Role Names".
 pub fn read_roles(alloc: Global, text: &str) -> Result<Option<Items<AuthId>>, AllocError>
+    ensures { IfOk result (λ roles. IsReadAs text.now roles) }
+{
+    roles_in(alloc, text)
+}
+
+/// The roles in `text`, from left to right.
+fn roles_in(alloc: Global, text: &str) -> Result<Option<Items<AuthId>>, AllocError>
     ensures { IfOk result (λ roles. roles ≡ roles_in text.now) }
 {
     let mut roles = Items::new(alloc);

@@ -1,6 +1,9 @@
 ghost use Rattle.std.specs.Prelude.{◌≡◌, length, take_while, IsUtf8, IsCharBoundary};
 ghost use Rattle.std.specs.List.{prefix_len};
-ghost use Rattle.mandatory_roles.specs.Runs.{has, is_blank, is_host_byte, is_word_byte, past_blanks, past_run, run_of};
+ghost use Rattle.grant_lex.specs.Class.{is_blank, is_word_byte};
+ghost use Rattle.mandatory_roles.specs.Runs.{has, is_host_byte, past_blanks, past_run, run_of};
+
+use grant_lex::{is_blank, is_word_byte};
 
 /// A sort of bytes.
 #[derive(Clone, Copy)]
@@ -20,18 +23,6 @@ impl Run {
             Run::Host => is_host_byte(byte),
         }
     }
-}
-
-fn is_blank(byte: u8) -> bool
-    ensures { result ≡ is_blank byte }
-{
-    matches!(byte, b' ' | b'\t')
-}
-
-fn is_word_byte(byte: u8) -> bool
-    ensures { result ≡ is_word_byte byte }
-{
-    byte.is_ascii_alphanumeric() || byte == b'_' || byte == b'$' || byte >= 0x80
 }
 
 fn is_host_byte(byte: u8) -> bool

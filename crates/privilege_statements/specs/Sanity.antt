@@ -6,11 +6,11 @@ use Rattle.acl_grammar.specs.Reader.{Sample, Sane}
 use Rattle.grant_words.specs.Classes.{is}
 use Rattle.grant_words.specs.Lists.{accounts}
 use Rattle.grant_words.specs.Names.{account, at_host, ident}
-use Rattle.grant_words.specs.Sanity.{sane}
-use Rattle.grant_words.specs.Syntax.{grammar_of, sample}
+use Rattle.grant_words.proofs.Sanity.{sample, sane}
+use Rattle.grant_words.specs.Syntax.{grammar_of}
 use Rattle.priv_sets.specs.DynamicNames.{dynamic_names}
 use Rattle.priv_sets.specs.PlainNames.{plain_names}
-use Rattle.reserved_words.specs.Reserved.{reserved_words}
+use Rattle.grant_lex.specs.Reserved.{reserved_words}
 use Rattle.privilege_statements.specs.PrivilegeItems.{column_names, item, maybe_columns, maybe_privileges, privilege_item, privileges, static_privilege}
 use Rattle.privilege_statements.specs.PrivilegeNames.{alter_names, create_names, create_others, drop_names, dynamic_class, dynamic_numbers, lone_class, lone_numbers, other_name, replication_names, show_names, static_name}
 use Rattle.privilege_statements.specs.Statements.{grant, privilege_statement, privileges_on_target, request, revoke, with_grant_option}

@@ -117,7 +117,7 @@ fn maybe_columns<'a>(
     })
 }
 
-#[tactic(auto, using(crate::proofs::Mapped::map_same), unfolding(crate::specs::PrivilegeItems::column_names))]
+#[tactic(auto, using(grant_words::proofs::Mapped::map_same), unfolding(crate::specs::PrivilegeItems::column_names))]
 fn column_names<'a>(
     alloc: Global,
     tokens: &'a [Lexeme],
@@ -133,7 +133,7 @@ fn column_names<'a>(
 }
 
 /// ALL, or a list of items.
-#[tactic(auto, using(crate::proofs::Mapped::map_same), unfolding(crate::specs::PrivilegeItems::privileges))]
+#[tactic(auto, using(grant_words::proofs::Mapped::map_same), unfolding(crate::specs::PrivilegeItems::privileges))]
 pub(crate) fn privileges<'a>(
     alloc: Global,
     tokens: &'a [Lexeme],

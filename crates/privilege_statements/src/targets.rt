@@ -3,7 +3,7 @@
 ghost use Rattle.std.specs.Prelude.{◌≡◌, ℕ, List, IfOk};
 ghost use Rattle.acl_grammar.specs.Code.{Gives};
 ghost use Rattle.acl_grammar.specs.Reader.{begins, first, read};
-ghost use Rattle.grant_words.specs.Classes.{is, is_identifier_token};
+ghost use Rattle.grant_words.specs.Classes.{is};
 ghost use Rattle.grant_words.specs.Syntax.{grammar_of};
 ghost use Rattle.priv_items.specs.Escapes.{unescaped};
 ghost use Rattle.privilege_statements.specs.Sanity.{long_sample};
@@ -12,10 +12,8 @@ ghost use Rattle.privilege_statements.specs.Targets.{behind_star, dotted, long_c
 use acl_grammar::{Class, Found, Refusal, Rule, TokenClass, expect, token_of};
 use acl_names::{Ident, NameRefusal};
 use acl_stmt::Target;
-use grant_lex::Kind;
-use grant_words::{Identifier, Keyword, Lexeme, Mark, Name};
+use grant_words::{Identifier, Keyword, Lexeme, Mark, Name, is_identifier_token};
 use priv_items::read_schema;
-use reserved_words::is_reserved;
 use std::alloc::{AllocError, Global};
 
 /// The name of a schema that is too long as it is written, and no longer without its escapes.
@@ -45,16 +43,6 @@ impl TokenClass<Lexeme> for LongSchema {
     }
 
     ghost sample = { long_sample };
-}
-
-fn is_identifier_token(token: &Lexeme) -> bool
-    ensures { result ≡ is_identifier_token token.now.kind token.now.value }
-{
-    match token.kind {
-        Kind::Word => !is_reserved(token.value.as_str()),
-        Kind::Backquoted => true,
-        Kind::Quoted | Kind::Mark(_) => false,
-    }
 }
 
 /// The target of a GRANT or a REVOKE.

@@ -5,10 +5,10 @@ use Rattle.acl_grammar.proofs.Theorem.{first_of, full_of}
 use Rattle.acl_stmt.specs.declared.statement.Statement.{Statement}
 use Rattle.acl_grammar.specs.Reader.{Sane}
 use Rattle.acl_grammar.specs.Spelling.{spells}
-use Rattle.grant_words.specs.Apart.{apart_classes}
+use Rattle.grant_words.proofs.Apart.{apart_classes, are_apart}
 use Rattle.grant_words.specs.Classes.{Class, is, word}
-use Rattle.grant_words.specs.Sanity.{first_within, full, lists_apart, one_apart}
-use Rattle.grant_words.specs.Syntax.{Syntax, all_apart, are_apart, firsts, grammar_of, may_be_empty}
+use Rattle.grant_words.proofs.Sanity.{all_apart, first_within, firsts, full, lists_apart, may_be_empty, one_apart}
+use Rattle.grant_words.specs.Syntax.{Syntax, grammar_of}
 use Rattle.grant_words.specs.declared.lexeme.Lexeme.{Lexeme}
 use Rattle.privilege_statements.specs.Sanity.{privilege_statement_sane}
 use Rattle.privilege_statements.specs.Statements.{privilege_statement}

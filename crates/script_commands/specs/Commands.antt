@@ -13,10 +13,10 @@ use Rattle.grant_words.specs.Classes.Class.{valued}
 use Rattle.grant_words.specs.Classes.Sort.{string}
 use Rattle.grant_words.specs.Lists.{roles}
 use Rattle.grant_words.specs.Names.{account, ident, same, user_class}
+use Rattle.grant_words.specs.Numbers.{number_of}
 use Rattle.grant_words.specs.Syntax.{Syntax}
 use Rattle.grant_words.specs.Syntax.Syntax.{token, after, empty, both, to, choice}
 use Rattle.privilege_statements.specs.Statements.{request}
-use Rattle.user_statements.specs.Options.{number_of}
 use Rattle.user_statements.specs.Secrets.{password_class, verifier_of}
 use Rattle.script_commands.specs.Numbers.{length_class, turns_class}
 use Rattle.script_commands.specs.declared.command.Connect.{Connect}
@@ -51,12 +51,12 @@ abbrev pub connect_of : List ℕ × (Client × Verifier) → Connect
 connect_of v = record { user = v.0; client = v.1.0; verifier = v.1.1 }
 
 -- user FROM client [ PASSWORD string ]
-unfoldable pub knock : Syntax Connect
-knock = to connect_of (both (token user_class same) (after (word (codes "FROM")) (both client password)))
+unfoldable pub connection : Syntax Connect
+connection = to connect_of (both (token user_class same) (after (word (codes "FROM")) (both client password)))
 
 -- CONNECT user FROM client [ PASSWORD string ]
 unfoldable pub connect : Syntax Connect
-connect = after (word (codes "CONNECT")) knock
+connect = after (word (codes "CONNECT")) connection
 
 -- ALL, or ALL EXCEPT role, .., each behind its first word
 unfoldable pub all_roles : Syntax RoleForm

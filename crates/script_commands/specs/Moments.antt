@@ -2,9 +2,10 @@
 use Rattle.std.specs.Prelude.{◌≡◌, ◌++◌, ◌&&◌, ◌==◌, not, ℕ, Bool, IsTrue, List, ◌∷◌, Option, Some, None, Result, Ok, Err, length, drop, codes}
 use Rattle.acl_grammar.specs.Reader.{Reading, expected}
 use Rattle.acl_grammar.specs.Spelling.{spells}
-use Rattle.grant_lex.specs.Class.{class_of}
+use Rattle.grant_lex.specs.Class.{is_blank}
 use Rattle.grant_lex.specs.Next.{BeginsWithout, IsOf}
 use Rattle.grant_lex.specs.Token.{PastBlanks, Reads}
+use Rattle.grant_lex.specs.declared.class.Class.TheVariants.{Blank}
 use Rattle.grant_lex.specs.declared.refusal.LexRefusal.{LexRefusal}
 use Rattle.grant_lex.specs.declared.sorts.Token.{Token}
 use Rattle.grant_words.specs.Classes.{Class, is, word}
@@ -14,9 +15,9 @@ use Rattle.grant_words.specs.declared.lexeme.Lexeme.{Lexeme}
 use Rattle.script_commands.specs.Commands.{connect}
 use Rattle.script_commands.specs.declared.command.Connect.{Connect}
 
--- a byte of the same class as a space
+-- a space or a tab
 abbrev pub IsBlank : ℕ → Type 0
-IsBlank b = IsOf (class_of 32) b
+IsBlank b = IsOf Blank b
 
 -- AT
 abbrev pub at_word : Class
@@ -48,6 +49,6 @@ abbrev pub option_of : Reading Lexeme Connect → Option (Connect × ℕ)
 option_of (Ok q) = left_behind q.0 (expected (is at_word) q.1)
 option_of (Err _) = None
 
--- no space and no tab
+-- any other byte
 abbrev pub is_no_blank : ℕ → Bool
-is_no_blank b = not (b == 32) && not (b == 9)
+is_no_blank b = not (is_blank b)

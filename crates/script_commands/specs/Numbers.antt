@@ -5,17 +5,18 @@ use Rattle.std.specs.List.{list_all}
 use Rattle.grant_words.specs.Classes.{Class}
 use Rattle.grant_words.specs.Classes.Class.{valued}
 use Rattle.grant_words.specs.Classes.Sort.{plain_word}
-use Rattle.user_statements.specs.Options.{number_of}
+use Rattle.grant_words.specs.Numbers.{number_of}
 
--- one digit, or more of which the first is not 0
-abbrev pub is_plain : List ℕ → Bool
-is_plain [] = false
-is_plain (digit ∷ []) = is_ascii_digit digit
-is_plain (digit ∷ next ∷ rest) = not (digit == 48) && list_all is_ascii_digit (digit ∷ next ∷ rest)
+-- one byte, or more of which the first is not `0`
+abbrev pub has_no_leading_zero : List ℕ → Bool
+has_no_leading_zero [] = false
+has_no_leading_zero (digit ∷ []) = true
+has_no_leading_zero (digit ∷ next ∷ rest) = not (digit == 48)
 
--- a plain number from the least to the most
+-- digits without a leading zero, of a number from the least to the most
 abbrev pub is_number_within : ℕ → ℕ → List ℕ → Bool
-is_number_within least most text = is_plain text && nat_le least (number_of text) && nat_le (number_of text) most
+is_number_within least most text =
+    has_no_leading_zero text && list_all is_ascii_digit text && nat_le least (number_of text) && nat_le (number_of text) most
 
 -- a length of the published list
 abbrev pub is_length : List ℕ → Bool

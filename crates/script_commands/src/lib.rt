@@ -3,9 +3,9 @@
 #![tactic(auto)]
 
 mod check;
-mod classes;
+mod client;
 mod command;
-mod connecting;
+mod connection;
 mod laws;
 mod moment;
 mod number;

@@ -16,7 +16,7 @@ ghost use Rattle.script_commands.specs.declared.command.Connect.{Connect};
 
 use crate::{Connect, ConnectRule};
 use acl_grammar::{Refusal, Rule, expect};
-use grant_lex::{LexRefusal, Token, tokens};
+use grant_lex::{LexRefusal, Token, is_blank, tokens};
 use grant_words::{Keyword, Lexeme, lexemes};
 use std::alloc::{AllocError, Global};
 
@@ -162,5 +162,5 @@ fn blanks(text: &[u8]) -> usize
 fn first_other(text: &[u8]) -> Option<usize>
     ensures { result ≡ position is_no_blank text.now }
 {
-    text.iter().position(|byte| *byte != b' ' && *byte != b'\t')
+    text.iter().position(|byte| !is_blank(*byte))
 }

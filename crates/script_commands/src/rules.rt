@@ -8,7 +8,7 @@ ghost use Rattle.script_commands.specs.declared.command.Connect.{Connect};
 ghost use Rattle.script_commands.specs.declared.command.RawCommand.{RawCommand};
 
 use crate::check::{awaited, session_command};
-use crate::connecting::knock;
+use crate::connection::connection;
 use crate::{Connect, RawCommand};
 use acl_grammar::{Found, Refusal, Rule, expect};
 use grant_words::{Keyword, Lexeme};
@@ -32,7 +32,7 @@ impl Rule<Lexeme> for ConnectRule {
         tokens: &'a [Lexeme],
     ) -> Result<Found<'a, Lexeme, Connect>, Refusal<'a, Lexeme>> {
         let rest = expect(&Keyword("CONNECT"), tokens)?;
-        knock(alloc, rest)
+        connection(alloc, rest)
     }
 
     ghost sane = { connect_sane };
@@ -56,7 +56,7 @@ impl Rule<Lexeme> for CommandRule {
         tokens: &'a [Lexeme],
     ) -> Result<Found<'a, Lexeme, RawCommand>, Refusal<'a, Lexeme>> {
         if let Ok(rest) = expect(&Keyword("CONNECT"), tokens) {
-            let connect = knock(alloc, rest)?;
+            let connect = connection(alloc, rest)?;
             return Ok(Found {
                 value: RawCommand::Connect(connect.value),
                 rest: connect.rest,

@@ -8,7 +8,7 @@ use Rattle.grant_parse.proofs.Unique.{one_statement, request_meant_once, stateme
 use Rattle.grant_parse.specs.Statements.{SpellsStatement, privilege_rule, user_rule}
 use Rattle.grant_refusal.specs.declared.ParseRefusal.{ParseRefusal}
 use Rattle.grant_refusal.specs.declared.ParseRefusal.TheVariants.{Limit, Syntax, WrongLevel, NoMemory}
-use Rattle.grant_texts.proofs.Once.{IsUnique, spelled_once, syntax_once, unspelled}
+use Rattle.grant_parse.proofs.Once.{IsUnique, spelled_once, syntax_once, unspelled}
 use Rattle.grant_words.specs.Syntax.{grammar_of}
 use Rattle.grant_words.specs.declared.lexeme.Lexeme.{Lexeme}
 use Rattle.priv_sets.specs.declared.privilege.Privilege.{Privilege}

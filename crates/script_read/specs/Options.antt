@@ -9,18 +9,18 @@ use Rattle.grant_lex.specs.declared.refusal.LexRefusal.{LexRefusal}
 use Rattle.grant_lex.specs.declared.sorts.Token.{Token}
 use Rattle.grant_words.specs.Classes.{is}
 use Rattle.grant_words.specs.Lexemes.{lexeme_of, lexemes_of}
-use Rattle.grant_words.specs.Sanity.{follow_within, one_apart}
-use Rattle.grant_words.specs.Syntax.{follows, grammar_of}
+use Rattle.grant_words.proofs.Sanity.{follow_within, follows, one_apart}
+use Rattle.grant_words.specs.Syntax.{grammar_of}
 use Rattle.grant_words.specs.declared.lexeme.Lexeme.{Lexeme}
 use Rattle.std.specs.Prelude.{Option}
-use Rattle.script_commands.specs.Commands.{client, client_name, client_text, connect, knock, password}
+use Rattle.script_commands.specs.Commands.{client, client_name, client_text, connect, connection, password}
 use Rattle.script_commands.specs.Moments.{HasMoment, IsBlank, IsMomentAt, at_word, left_behind, option_of}
 use Rattle.script_commands.specs.Sanity.{connect_sane}
 use Rattle.script_commands.specs.declared.command.Connect.{Connect}
 
 -- no CONNECT goes on with the word AT
 at_apart : (t : Lexeme) → IsTrue (is at_word t) → goes_on (grammar_of connect) t ≡ false
-unfolding client_text client_name client password knock connect
+unfolding client_text client_name client password connection connect
 at_apart t h = step (goes_on (grammar_of connect) t) refl
   where
     step : (b : Bool) → goes_on (grammar_of connect) t ≡ b → b ≡ false

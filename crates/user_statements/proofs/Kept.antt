@@ -12,10 +12,11 @@ use Rattle.acl_stmt.specs.Statements.{are_options, are_roles, is_default_form, i
 use Rattle.acl_stmt.specs.declared.options.AccountOptions.{AccountOptions}
 use Rattle.acl_stmt.specs.declared.roles.DefaultForm.{DefaultForm}
 use Rattle.acl_stmt.specs.declared.statement.Statement.{Statement}
-use Rattle.grant_words.specs.Apart.{both_left, both_right}
+use Rattle.grant_words.proofs.Apart.{both_left, both_right}
 use Rattle.grant_words.specs.Classes.{has_sort, is}
 use Rattle.grant_words.specs.Classes.Sort.{name, plain_word, string}
 use Rattle.grant_words.specs.Lists.{accounts, comma, roles}
+use Rattle.grant_words.specs.Numbers.{number_of}
 use Rattle.grant_words.specs.Names.{account, is_role_user, is_some_text, is_user, role}
 use Rattle.grant_words.specs.Syntax.{grammar_of}
 use Rattle.grant_words.specs.declared.lexeme.Lexeme.{Lexeme}
@@ -23,7 +24,7 @@ use Rattle.mandatory_roles.proofs.Lists.{in_found}
 use Rattle.mandatory_roles.specs.Roles.{roles_in}
 use Rattle.mandatory_roles.specs.Spelling.{SpellsRoles}
 use Rattle.user_statements.proofs.Numbers.{same_number}
-use Rattle.user_statements.specs.Options.{is_option_number, lock_time, no_options, number, number_of, options, setting, with_setting, with_settings}
+use Rattle.user_statements.specs.Options.{is_option_number, lock_time, no_options, number, options, setting, with_setting, with_settings}
 use Rattle.user_statements.specs.Statements.{alter_user, altered_account, create, create_role, create_user, default_form, drop, drop_role, drop_user, grant_roles, is_role_list, new_account, on_grants, rename_user, renaming, revoke, revoke_all, revoke_roles, roles_or_none, set, set_activate_all, set_default_role, set_mandatory, set_password, set_persist, user_statement}
 use Rattle.user_statements.specs.declared.setting.Setting.{Setting}
 use Rattle.user_statements.specs.declared.setting.Setting.TheVariants.{Attempts, Lock, Locked}

@@ -1,5 +1,5 @@
 -- Options of accounts.
-use Rattle.std.specs.Prelude.{◌≡◌, ℕ, ◌+◌, ◌-◌, ◌*◌, Bool, true, false, ◌&&◌, nat_le, List, [], ◌∷◌, length, Some, None, codes, refl}
+use Rattle.std.specs.Prelude.{ℕ, Bool, true, false, ◌&&◌, nat_le, List, [], ◌∷◌, length, Some, None, codes}
 use Rattle.std.specs.Char.{is_ascii_digit}
 use Rattle.std.specs.List.{list_all}
 use Rattle.acl_names.specs.declared.policy.LockTime.{LockTime}
@@ -8,21 +8,11 @@ use Rattle.acl_stmt.specs.declared.options.AccountOptions.{AccountOptions}
 use Rattle.grant_words.specs.Classes.{Class, word}
 use Rattle.grant_words.specs.Classes.Class.{valued}
 use Rattle.grant_words.specs.Classes.Sort.{plain_word}
+use Rattle.grant_words.specs.Numbers.{number_of}
 use Rattle.grant_words.specs.Syntax.{Syntax}
 use Rattle.grant_words.specs.Syntax.Syntax.{token, after, empty, to, choice, many}
 use Rattle.user_statements.specs.declared.setting.Setting.{Setting}
 use Rattle.user_statements.specs.declared.setting.Setting.TheVariants.{Attempts, Lock, Locked}
-
--- the number that digits write behind those of another number
-abbrev pub number_behind : ℕ → List ℕ → ℕ
-number_behind before [] = before
-number_behind before (digit ∷ digits) = number_behind (before * 10 + (digit - 48)) digits
-
-abbrev pub number_of : List ℕ → ℕ
-number_of digits = number_behind 0 digits
-
-example-number : number_of (codes "00120") ≡ 120
-example-number = refl
 
 -- 1 to 5 digits, of a number up to 32,767
 abbrev pub is_option_number : List ℕ → Bool

@@ -3,14 +3,14 @@ use Rattle.std.specs.Prelude.{refl}
 use Rattle.std.specs.Str.{chars}
 use Rattle.account_match.specs.Form.{form_of}
 use Rattle.acl_grammar.specs.Reader.{Sample, Sane}
-use Rattle.grant_words.specs.Sanity.{sane}
+use Rattle.grant_words.proofs.Sanity.{sample, sane}
 use Rattle.hex.proofs.OnLiterals.{hex_on_literals}
 use Rattle.grant_words.specs.Classes.{is}
 use Rattle.grant_words.specs.Lists.{accounts, roles}
 use Rattle.grant_words.specs.Names.{account, at_host, role}
-use Rattle.grant_words.specs.Syntax.{grammar_of, sample}
+use Rattle.grant_words.specs.Syntax.{grammar_of}
 use Rattle.mandatory_roles.specs.Roles.{roles_in}
-use Rattle.reserved_words.specs.Reserved.{reserved_words}
+use Rattle.grant_lex.specs.Reserved.{reserved_words}
 use Rattle.user_statements.specs.Flags.{if_exists, if_not_exists, with_admin_option}
 use Rattle.user_statements.specs.Options.{lock, lock_time, number, number_class, options, setting}
 use Rattle.user_statements.specs.Secrets.{by_secret, digest_class, password_class, secret}

@@ -102,7 +102,7 @@ roles_or_none None = []
 abbrev pub roles_of : List ℕ → List AuthId
 roles_of text = roles_or_none (roles_in text)
 
--- a string that is a list of roles
+-- a string that is a list of roles, by law one that `SpellsRoles` tells
 abbrev pub roles_class : Class
 roles_class = valued string is_role_list []
 

@@ -4,6 +4,7 @@
 #![tactic(auto)]
 
 mod flags;
+mod laws;
 mod options;
 mod parts;
 mod roles;
@@ -13,5 +14,7 @@ mod setting;
 mod statement;
 mod users;
 
+pub use laws::role_lists_are_spelled;
+pub use secret::Password;
 pub use setting::Setting;
 pub use statement::UserStatement;

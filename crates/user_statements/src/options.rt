@@ -1,13 +1,12 @@
 //! Options of accounts.
 
 ghost use Rattle.std.specs.Prelude.{◌≡◌, ℕ, Some, None, if◌then◌else◌};
-ghost use Rattle.std.specs.Char.{is_ascii_digit};
-ghost use Rattle.std.specs.List.{list_all};
 ghost use Rattle.acl_grammar.specs.Code.{Gives};
 ghost use Rattle.acl_grammar.specs.Reader.{first, read};
 ghost use Rattle.grant_words.specs.Classes.{is};
+ghost use Rattle.grant_words.specs.Numbers.{number_of};
 ghost use Rattle.grant_words.specs.Syntax.{grammar_of};
-ghost use Rattle.user_statements.specs.Options.{is_option_number, lock, lock_time, no_options, number_class, number_of, options, setting, with_setting, with_settings};
+ghost use Rattle.user_statements.specs.Options.{is_option_number, lock, lock_time, no_options, number_class, options, setting, with_setting, with_settings};
 ghost use Rattle.user_statements.specs.Sanity.{number_sample, setting_sane};
 ghost use Rattle.user_statements.specs.declared.setting.Setting.{Setting};
 
@@ -16,7 +15,7 @@ use acl_grammar::{Class, Found, Refusal, Rule, Starts, TokenClass, expect, many_
 use acl_names::LockTime;
 use acl_stmt::AccountOptions;
 use grant_lex::Kind;
-use grant_words::{Keyword, Lexeme};
+use grant_words::{Keyword, Lexeme, number_of};
 use std::alloc::{AllocError, Global};
 
 /// A number of attempts or of days.
@@ -45,31 +44,16 @@ impl TokenClass<Lexeme> for OptionNumber {
     ghost sample = { number_sample };
 }
 
-#[tactic(auto, using(crate::proofs::Numbers::too_large))]
 fn option_number(text: &[u8]) -> Option<u16>
     ensures { result ≡ (if is_option_number text.now then Some (number_of text.now) else None) }
 {
-    if text.is_empty() || text.len() > 5 || !are_digits(text) {
+    if text.is_empty() || text.len() > 5 {
         return None;
     }
-    let mut number: u32 = 0;
-    for digit in text {
-        if number > 32767 {
-            return None;
-        }
-        number = number * 10 + digit.saturating_sub(b'0') as u32;
+    match number_of(text) {
+        Some(number) if number <= 32767 => Some(number as u16),
+        _ => None,
     }
-    if number > 32767 {
-        None
-    } else {
-        Some(number as u16)
-    }
-}
-
-fn are_digits(text: &[u8]) -> bool
-    ensures { result ≡ list_all is_ascii_digit text.now }
-{
-    text.iter().all(|byte| byte.is_ascii_digit())
 }
 
 impl Rule<Lexeme> for Setting {
@@ -165,7 +149,7 @@ fn lock<'a>(tokens: &'a [Lexeme]) -> Result<Found<'a, Lexeme, bool>, Refusal<'a,
 }
 
 /// Any options; the last of a kind counts.
-#[tactic(auto, using(crate::proofs::Mapped::map_same), unfolding(crate::specs::Options::options, crate::specs::Options::setting))]
+#[tactic(auto, using(grant_words::proofs::Mapped::map_same), unfolding(crate::specs::Options::options, crate::specs::Options::setting))]
 pub(crate) fn options<'a>(
     alloc: Global,
     tokens: &'a [Lexeme],

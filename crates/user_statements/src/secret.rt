@@ -19,8 +19,8 @@ use hex::FromHex;
 use login_throttle::verifier;
 use std::alloc::{AllocError, Global};
 
-/// A password, of which the verifier is kept.
-struct Password;
+/// A password, as a string, of which the verifier is kept.
+pub struct Password;
 
 impl TokenClass<Lexeme> for Password {
     type Value = Verifier;

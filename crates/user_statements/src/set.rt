@@ -1,11 +1,12 @@
 //! SET, behind its word.
 
-ghost use Rattle.std.specs.Prelude.{◌≡◌, List};
+ghost use Rattle.std.specs.Prelude.{◌≡◌, List, IfOk};
 ghost use Rattle.acl_grammar.specs.Code.{Gives};
 ghost use Rattle.acl_grammar.specs.Reader.{read};
 ghost use Rattle.acl_names.specs.declared.auth.AuthId.{AuthId};
 ghost use Rattle.grant_words.specs.Classes.{is};
 ghost use Rattle.grant_words.specs.Syntax.{grammar_of};
+ghost use Rattle.mandatory_roles.specs.Roles.{roles_in};
 ghost use Rattle.user_statements.specs.Sanity.{roles_sample};
 ghost use Rattle.user_statements.specs.Statements.{default_form, for_account, on_or_off, roles_class, roles_of, set, set_activate_all, set_default_role, set_mandatory, set_password, set_persist};
 
@@ -177,13 +178,19 @@ impl TokenClass<Lexeme> for RoleList {
     #[tactic(auto, unfolding(grant_words::specs::Classes::is))]
     fn value_of(alloc: Global, token: &Lexeme) -> Result<Option<Items<AuthId>>, AllocError> {
         if token.kind == Kind::Quoted {
-            read_roles(alloc, token.value.as_str())
+            roles_in(alloc, token.value.as_str())
         } else {
             Ok(None)
         }
     }
 
     ghost sample = { roles_sample };
+}
+
+fn roles_in(alloc: Global, text: &str) -> Result<Option<Items<AuthId>>, AllocError>
+    ensures { IfOk result (λ roles. roles ≡ roles_in text.now) }
+{
+    read_roles(alloc, text)
 }
 
 #[tactic(auto, unfolding(crate::specs::Statements::set_mandatory))]

@@ -30,7 +30,7 @@ pub(crate) fn create<'a>(
     create_role(alloc, rest)
 }
 
-#[tactic(auto, using(crate::proofs::Mapped::map_same), unfolding(crate::specs::Statements::create_user))]
+#[tactic(auto, using(grant_words::proofs::Mapped::map_same), unfolding(crate::specs::Statements::create_user))]
 fn create_user<'a>(
     alloc: Global,
     tokens: &'a [Lexeme],
@@ -69,7 +69,7 @@ fn create_role<'a>(
 }
 
 /// ALTER USER, behind both words.
-#[tactic(auto, using(crate::proofs::Mapped::map_same), unfolding(crate::specs::Statements::alter_user))]
+#[tactic(auto, using(grant_words::proofs::Mapped::map_same), unfolding(crate::specs::Statements::alter_user))]
 pub(crate) fn alter_user<'a>(
     alloc: Global,
     tokens: &'a [Lexeme],
@@ -139,7 +139,7 @@ fn drop_role<'a>(
 }
 
 /// RENAME USER, behind both words.
-#[tactic(auto, using(crate::proofs::Mapped::map_same), unfolding(crate::specs::Statements::rename_user))]
+#[tactic(auto, using(grant_words::proofs::Mapped::map_same), unfolding(crate::specs::Statements::rename_user))]
 pub(crate) fn rename_user<'a>(
     alloc: Global,
     tokens: &'a [Lexeme],

@@ -1,4 +1,5 @@
 -- Statements on what is granted are read back.
+use Rattle.grant_words.specs.Lexemes.{printed_lexeme, printed_lexemes}
 use Rattle.std.proofs.Common.{List, [], ◌∷◌, ◌++◌, inl, inr, refl, sym, subst}
 use Rattle.std.specs.Prelude.{codes}
 use Rattle.acl_grammar.specs.Spelling.{spells}
@@ -11,11 +12,10 @@ use Rattle.grant_words.specs.Classes.{is}
 use Rattle.grant_words.specs.Syntax.{grammar_of}
 use Rattle.grant_words.specs.declared.lexeme.Lexeme.{Lexeme}
 use Rattle.user_statements.specs.Statements.{default_form, grant_roles, maybe_privileges, revoke_all, revoke_roles, set_default_role}
-use Rattle.user_texts.proofs.Lists.{lexemes_append}
+use Rattle.canonical_texts.proofs.Lexemes.{lexemes_append}
 use Rattle.user_texts.proofs.Names.{accounts_again, roles_again}
 use Rattle.user_texts.proofs.Rules.{admin_option_again, from_default_role, from_grant, from_revoke, from_revoke_all, key}
 use Rattle.user_texts.proofs.Users.{IsReadBack}
-use Rattle.user_texts.specs.Lexemes.{lexeme_of, printed_lexemes}
 
 pub grant_again : (ts : List Lexeme) (s : Statement) → spells (grammar_of grant_roles) ts s → IsReadBack s
 unfolding grant_roles further_tokens is
@@ -53,7 +53,7 @@ revoke_all_again ts s (v, (xs, ys, cut, written, (t1, u1, h1, c1, (t2, u2, h2, c
     let from = key (codes "FROM") ∷ holders in
     let option = key (codes "OPTION") ∷ from in
     let grant = key (codes "GRANT") ∷ option in
-    let behind = lexeme_of (mark 44) ∷ grant in
+    let behind = printed_lexeme (mark 44) ∷ grant in
     subst IsReadBack (sym same)
     (from_revoke_all (key (codes "PRIVILEGES") ∷ behind) (RevokeAll v.1) (
       (tt, v.1),
@@ -63,7 +63,7 @@ revoke_all_again ts s (v, (xs, ys, cut, written, (t1, u1, h1, c1, (t2, u2, h2, c
         refl,
         privileges_word,
         (
-          lexeme_of (mark 44),
+          printed_lexeme (mark 44),
           grant,
           refl,
           refl,

@@ -8,7 +8,8 @@ use Rattle.std.specs.Char.{is_ascii_digit}
 use Rattle.std.specs.List.{list_all}
 use Rattle.std.specs.Prelude.{decimal}
 use Rattle.grant_lex.specs.Value.{value_of}
-use Rattle.user_statements.specs.Options.{is_option_number, number_behind, number_of}
+use Rattle.grant_words.specs.Numbers.{number_behind, number_of}
+use Rattle.user_statements.specs.Options.{is_option_number}
 
 -- a digit more
 number_push : (before d : ℕ) (ds : List ℕ) → number_behind before (ds ++ d ∷ []) ≡ number_behind before ds * 10 + (d - 48)

@@ -1,4 +1,5 @@
 -- The list of mandatory roles is read back from its string.
+use Rattle.grant_words.specs.Lexemes.{printed_lexeme}
 use Rattle.std.proofs.Common.{◌≡◌, ◌≤◌, ℕ, IsTrue, is_some, List, [], ◌∷◌, length, Option, Some, None, refl, sym, ap, subst}
 use Rattle.std.specs.List.{AllByRecursion}
 use Rattle.acl_grammar.specs.Spelling.{spells}
@@ -9,7 +10,7 @@ use Rattle.acl_names.specs.declared.host.TheConstants.{HOST_LIMIT}
 use Rattle.canonical_texts.proofs.Strings.{mandatory_read}
 use Rattle.canonical_texts.specs.Quotes.{string_text}
 use Rattle.canonical_texts.specs.Tokens.{spaced_mark, string}
-use Rattle.grant_words.specs.Apart.{both_right}
+use Rattle.grant_words.proofs.Apart.{both_right}
 use Rattle.grant_words.specs.Classes.{has_sort, is}
 use Rattle.grant_words.specs.Classes.Sort.{string as string_sort}
 use Rattle.grant_words.specs.Syntax.{grammar_of}
@@ -21,7 +22,6 @@ use Rattle.mandatory_roles.specs.Spelling.{SpellsRole, SpellsRoles}
 use Rattle.mandatory_roles.specs.Text.{IsRole, roles_text}
 use Rattle.mandatory_roles.specs.declared.read.TheConstants.{ROLE_LIMIT}
 use Rattle.user_statements.specs.Statements.{equals, is_role_list, roles_class, roles_of, roles_or_none}
-use Rattle.user_texts.specs.Lexemes.{lexeme_of}
 
 role_is : (text : List ℕ) (v : AuthId) → SpellsRole text v → IsRole v
 role_is text v spelled = record {
@@ -45,11 +45,11 @@ are_listed : (text : List ℕ) (o : Option (List AuthId)) → roles_in text ≡ 
 are_listed text None e h = absurd (cc)
 are_listed text (Some vs) e h = let found = in_found text vs e in record { each = each_role text vs found.0; few = found.1 }
 
-equals_is : IsTrue (is equals (lexeme_of (spaced_mark 61)))
+equals_is : IsTrue (is equals (printed_lexeme (spaced_mark 61)))
 unfolding is
 equals_is = refl
 
-list_is : (vs : List AuthId) → AreListed vs → IsTrue (is roles_class (lexeme_of (string (string_text (roles_text vs)))))
+list_is : (vs : List AuthId) → AreListed vs → IsTrue (is roles_class (printed_lexeme (string (string_text (roles_text vs)))))
 unfolding is
 list_is vs listed = ap is_some (mandatory_read vs listed.each listed.few)
 
@@ -59,12 +59,12 @@ value_listed x here = are_listed x.value (roles_in x.value) refl (both_right (ha
 
 -- `=` and the string
 pub mandatory_again : (x : Lexeme) (vs : List AuthId) → IsTrue (is roles_class x) → vs ≡ roles_of x.value
-    → spells (grammar_of (after equals (token roles_class roles_of))) (lexeme_of (spaced_mark 61) ∷ lexeme_of (string (string_text (roles_text vs))) ∷ []) vs
+    → spells (grammar_of (after equals (token roles_class roles_of))) (printed_lexeme (spaced_mark 61) ∷ printed_lexeme (string (string_text (roles_text vs))) ∷ []) vs
 mandatory_again x vs here value =
     let listed = subst AreListed (sym value) (value_listed x here) in (
-      lexeme_of (spaced_mark 61),
-      lexeme_of (string (string_text (roles_text vs))) ∷ [],
+      printed_lexeme (spaced_mark 61),
+      printed_lexeme (string (string_text (roles_text vs))) ∷ [],
       equals_is,
       refl,
-      (lexeme_of (string (string_text (roles_text vs))), list_is vs listed, refl, sym (ap roles_or_none (mandatory_read vs listed.each listed.few))),
+      (printed_lexeme (string (string_text (roles_text vs))), list_is vs listed, refl, sym (ap roles_or_none (mandatory_read vs listed.each listed.few))),
     )

@@ -1,4 +1,5 @@
 -- Statements on a password and on settings are read back.
+use Rattle.grant_words.specs.Lexemes.{printed_lexeme, printed_lexemes}
 use Rattle.std.proofs.Common.{◌≡◌, IsTrue, Bool, true, false, List, [], ◌∷◌, ◌++◌, Option, Some, None, cond, inl, inr, refl, sym, ap, subst, ◌∙◌}
 use Rattle.std.specs.Prelude.{codes}
 use Rattle.acl_grammar.specs.Spelling.{spells}
@@ -16,32 +17,31 @@ use Rattle.grant_words.specs.declared.lexeme.Lexeme.{Lexeme}
 use Rattle.mandatory_roles.specs.Text.{roles_text}
 use Rattle.user_statements.specs.Statements.{for_account, on_or_off, set_activate_all, set_mandatory, set_password}
 use Rattle.user_texts.proofs.Digests.{IsDigest}
-use Rattle.user_texts.proofs.Lists.{lexemes_append}
-use Rattle.user_texts.proofs.Names.{account_keeps, account_written}
+use Rattle.canonical_texts.proofs.Lexemes.{lexemes_append}
+use Rattle.canonical_texts.proofs.Accounts.{account_keeps, account_spelled}
 use Rattle.user_texts.proofs.Passwords.{secret_digest, secret_written}
 use Rattle.user_texts.proofs.Roles.{mandatory_again}
 use Rattle.user_texts.proofs.Rules.{from_activate_all, from_mandatory, from_password, key}
 use Rattle.user_texts.proofs.Users.{IsReadBack}
-use Rattle.user_texts.specs.Lexemes.{lexeme_of, printed_lexemes}
-use Rattle.user_texts.specs.Rules.{KeepsRules}
+use Rattle.canonical_texts.specs.Rules.{account_keeps_rules}
 
-for_keeps : (ts : List Lexeme) (a : AuthId) → spells (grammar_of for_account) ts (Some a) → KeepsRules a
+for_keeps : (ts : List Lexeme) (a : AuthId) → spells (grammar_of for_account) ts (Some a) → IsTrue (account_keeps_rules a)
 unfolding for_account
-for_keeps ts a (inl (t, us, h, cut, (b, named, same))) = subst KeepsRules (sym (some_same same)) (account_keeps us b named)
+for_keeps ts a (inl (t, us, h, cut, (b, named, same))) = subst (λ x. IsTrue (account_keeps_rules x)) (sym (some_same same)) (account_keeps us b named)
   where
     some_same : Some a ≡ Some b → a ≡ b
     some_same e = cc
 for_keeps ts a (inr (none, same)) = absurd (cc)
 
-for_written : (a : AuthId) → KeepsRules a → spells (grammar_of for_account) (key (codes "FOR") ∷ printed_lexemes (account_tokens a)) (Some a)
+for_written : (a : AuthId) → IsTrue (account_keeps_rules a) → spells (grammar_of for_account) (key (codes "FOR") ∷ printed_lexemes (account_tokens a)) (Some a)
 unfolding for_account is
-for_written a keeps = inl (key (codes "FOR"), printed_lexemes (account_tokens a), refl, refl, (a, account_written a keeps, refl))
+for_written a keeps = inl (key (codes "FOR"), printed_lexemes (account_tokens a), refl, refl, (a, account_spelled a keeps, refl))
 
-pub password_written : (a : AuthId) (v : Verifier) → KeepsRules a → IsDigest v → IsReadBack (SetPassword (Some a) v)
+pub password_written : (a : AuthId) (v : Verifier) → IsTrue (account_keeps_rules a) → IsDigest v → IsReadBack (SetPassword (Some a) v)
 unfolding set_password further_tokens is
 password_written a v keeps digest =
-    let digits = key (codes "VERIFIER") ∷ lexeme_of (digits_token v) ∷ [] in
-    let behind = lexeme_of (spaced_mark 61) ∷ digits in
+    let digits = key (codes "VERIFIER") ∷ printed_lexeme (digits_token v) ∷ [] in
+    let behind = printed_lexeme (spaced_mark 61) ∷ digits in
     from_password (printed_lexemes ((word (codes "FOR") ∷ account_tokens a) ++ (spaced_mark 61 ∷ word (codes "VERIFIER") ∷ digits_token v ∷ []))) (SetPassword (Some a) v) (
       (Some a, v),
       (
@@ -49,7 +49,7 @@ password_written a v keeps digest =
         behind,
         lexemes_append (word (codes "FOR") ∷ account_tokens a) (spaced_mark 61 ∷ word (codes "VERIFIER") ∷ digits_token v ∷ []),
         for_written a keeps,
-        (lexeme_of (spaced_mark 61), digits, refl, refl, secret_written v digest),
+        (printed_lexeme (spaced_mark 61), digits, refl, refl, secret_written v digest),
       ),
       refl,
     )
@@ -81,4 +81,4 @@ unfolding set_activate_all further_tokens is
 activate_all_again ts s (b, k, same) =
     let behind = key (cond b (codes "ON") (codes "OFF")) ∷ [] in
     subst IsReadBack (sym same)
-    (from_activate_all (lexeme_of (spaced_mark 61) ∷ behind) (SetActivateAll b) (b, (lexeme_of (spaced_mark 61), behind, refl, refl, on_again b), refl))
+    (from_activate_all (printed_lexeme (spaced_mark 61) ∷ behind) (SetActivateAll b) (b, (printed_lexeme (spaced_mark 61), behind, refl, refl, on_again b), refl))

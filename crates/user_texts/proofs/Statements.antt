@@ -16,7 +16,7 @@ use Rattle.user_texts.proofs.Granted.{default_role_again, grant_again, revoke_ag
 use Rattle.user_texts.proofs.Passwords.{secret_digest}
 use Rattle.user_texts.proofs.Settings.{activate_all_again, mandatory_read_back, password_again, password_written}
 use Rattle.user_texts.proofs.Users.{IsReadBack, alter_user_again, create_role_again, create_user_again, drop_role_again, drop_user_again, rename_user_again}
-use Rattle.user_texts.specs.Rules.{KeepsRules}
+use Rattle.canonical_texts.specs.Rules.{account_keeps_rules}
 
 set_again : (ts : List Lexeme) (s : Statement) → spells (grammar_of set) ts s → IsTrue (is_complete s) → IsReadBack s
 unfolding set set_persist
@@ -75,6 +75,6 @@ statement_digest ts s (inr (inr (inl (t, us, h, cut, (inr (t', us', h', cut', (v
 statement_digest ts s (inr (inr (inr (inl (t, us, h, cut, (t', us', h', cut', (v, k, same))))))) = subst HasDigest (sym same) tt
 statement_digest ts s (inr (inr (inr (inr k)))) = on_grants_digest ts s k
 
-pub completed_read : (ts : List Lexeme) (a : AuthId) (v : Verifier) → spells (grammar_of user_statement) ts (SetPassword None v) → KeepsRules a
+pub completed_read : (ts : List Lexeme) (a : AuthId) (v : Verifier) → spells (grammar_of user_statement) ts (SetPassword None v) → IsTrue (account_keeps_rules a)
     → IsReadBack (SetPassword (Some a) v)
 completed_read ts a v k keeps = password_written a v keeps (statement_digest ts (SetPassword None v) k)

@@ -1,4 +1,6 @@
 -- Statements on accounts and roles are read back.
+use Rattle.grant_words.specs.Lexemes.{printed_lexemes}
+use Rattle.canonical_texts.specs.Lexemes.{canonical_lexemes}
 use Rattle.std.proofs.Common.{IsTrue, List, ◌∷◌, ◌++◌, refl, sym, ap, subst, ◌∙◌}
 use Rattle.std.specs.Prelude.{codes}
 use Rattle.acl_grammar.specs.Spelling.{spells}
@@ -9,17 +11,17 @@ use Rattle.acl_stmt.specs.declared.statement.Statement.{Statement}
 use Rattle.acl_stmt.specs.declared.statement.Statement.TheVariants.{CreateUser, AlterUser, DropUser, RenameUser, CreateRole, DropRole}
 use Rattle.canonical_texts.specs.StatementTokens.{further_tokens}
 use Rattle.canonical_texts.specs.Tokens.{account_tokens, accounts_tokens, altered_tokens, list_tokens, new_tokens, options_tokens, renamed_tokens, tokens_if, word, words_of}
-use Rattle.grant_words.specs.Apart.{both_right}
+use Rattle.grant_words.proofs.Apart.{both_right}
 use Rattle.grant_words.specs.Classes.{is}
 use Rattle.grant_words.specs.Syntax.{grammar_of}
 use Rattle.grant_words.specs.declared.lexeme.Lexeme.{Lexeme}
 use Rattle.user_statements.specs.Statements.{alter_user, altered_account, create_role, create_user, drop_role, drop_user, new_account, rename_user, renaming, user_statement}
-use Rattle.user_texts.proofs.Lists.{lexemes_append, list_again}
+use Rattle.canonical_texts.proofs.Lexemes.{lexemes_append}
+use Rattle.user_texts.proofs.Lists.{list_again}
 use Rattle.user_texts.proofs.Names.{account_again, accounts_again, role_again, roles_again}
 use Rattle.user_texts.proofs.Options.{options_again}
 use Rattle.user_texts.proofs.Passwords.{altered_again, new_again}
 use Rattle.user_texts.proofs.Rules.{from_alter_user, from_create_role, from_create_user, from_drop_role, from_drop_user, from_rename_user, if_exists_again, if_not_exists_again, key}
-use Rattle.user_texts.specs.Lexemes.{canonical_lexemes, printed_lexemes}
 
 -- the canonical text spells the statement
 abbrev pub IsReadBack : Statement → Type 0

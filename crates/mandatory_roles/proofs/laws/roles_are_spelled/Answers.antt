@@ -1,10 +1,7 @@
-use Rattle.mandatory_roles.proofs.Lists.{in_found, in_only, spelled_same}
+use Rattle.std.proofs.Common.{refl}
+use Rattle.mandatory_roles.proofs.Lists.{in_spelled, spelled_same}
+use Rattle.mandatory_roles.specs.Roles.{roles_in}
 use Rattle.mandatory_roles.proofs.laws.roles_are_spelled.Goals as goal
 
 pub returns : goal.returns
-returns c = record {
-  found = λ text roles is. (in_found text roles is).0;
-  within = λ text roles is. (in_found text roles is).1;
-  only = in_only;
-  unique = spelled_same;
-}
+returns c = record { read = λ text. in_spelled text (roles_in text) refl; unique = spelled_same }
