@@ -15,6 +15,7 @@ mod rows;
 mod take;
 mod uses;
 
+pub use accounts::empty_verifier;
 pub use acl_model::{AccountData, Row};
 pub use names::{names_dynamic, names_static};
 pub use naming::rows_naming_any;
