@@ -1,5 +1,5 @@
 -- How many items a set has.
-use Rattle.std.proofs.Common.{◌≡◌, ◌∙◌, ap, sym, ℕ, suc, zero, ◌+◌, ◌<◌, ◌≤◌, Bool, true, false, cond, not, ◌&&◌, ◌||◌, List, [], ◌∷◌, length, refl, nat_lt, MatchBool, arith, IsTrue, ◌↔◌}
+use Rattle.std.proofs.Common.{◌≡◌, ◌∙◌, ap, sym, ℕ, suc, ◌<◌, ◌≤◌, Bool, true, false, cond, not, ◌||◌, List, [], ◌∷◌, length, refl, nat_lt, MatchBool, arith}
 use Rattle.std.proofs.lemmas.Bool.{and_parts, ltb-false, ltb-true, not-true, or_left, or_right}
 use Rattle.std.specs.List.{list_any}
 use Rattle.acl_model.specs.Counts.{HasMoreThan, ListsEachOnce, all_differ_by}

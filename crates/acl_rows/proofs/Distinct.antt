@@ -1,7 +1,7 @@
 -- The distinct items that rows use, and the limits on them.
-use Rattle.std.proofs.Common.{◌≡◌, ◌∙◌, ap, sym, subst, ℕ, Bool, true, false, cond, not, ◌&&◌, ◌||◌, List, [], ◌∷◌, ◌++◌, Option, Some, None, length, fold, refl, IsTrue, ◌↔◌, inl, inr, MatchBool, nat_eq, eq-eqb, nat_lt}
+use Rattle.std.proofs.Common.{◌≡◌, ◌∙◌, ap, sym, subst, ℕ, Bool, true, false, cond, not, ◌||◌, List, [], ◌∷◌, ◌++◌, Option, Some, None, length, fold, refl, IsTrue, ◌↔◌, inl, inr, MatchBool, nat_lt}
 use Rattle.std.proofs.Math.Bool.{or-false, or-true}
-use Rattle.std.proofs.lemmas.Bool.{and_from, and_parts, eqb-true, not_from_false, not-true, or_from, or_left, or_parts, or_right}
+use Rattle.std.proofs.lemmas.Bool.{and_from, and_parts, not_from_false, not-true, or_from, or_parts}
 use Rattle.std.proofs.lemmas.List.Folds.{list_any-append}
 use Rattle.std.specs.List.{list_any}
 use Rattle.acl_names.proofs.SameAuth.{equal_from_same_auth, equal_from_text_eq, same_auth_itself, text_eq_itself}
@@ -9,11 +9,10 @@ use Rattle.acl_names.specs.AuthId.{same_auth}
 use Rattle.acl_names.specs.Text.{text_eq}
 use Rattle.acl_names.specs.declared.auth.AuthId.{AuthId}
 use Rattle.acl_model.proofs.SameRows.{equal_from_same_row, same_row_from_equal, same_row_itself}
-use Rattle.acl_model.specs.Counts.{HasMoreThan, IsEdgeInUse, IsExceeded, IsObjectInUse, IsPairInUse, IsSchemaInUse, ListsEachOnce, all_differ_by, same_pair}
+use Rattle.acl_model.specs.Counts.{HasMoreThan, IsEdgeInUse, IsObjectInUse, IsPairInUse, IsSchemaInUse, ListsEachOnce, all_differ_by, same_pair}
 use Rattle.acl_model.specs.Rows.{same_row}
-use Rattle.acl_model.specs.State.{State}
 use Rattle.acl_model.specs.declared.row.Row.{Row}
-use Rattle.acl_model.specs.declared.row.Row.TheVariants.{Account, Global, Dynamic, DynamicGrant, Schema, Table, Column, Function, Procedure, Edge, Admin, Default, Restriction}
+use Rattle.acl_model.specs.declared.row.Row.TheVariants.{Schema, Table, Column, Function, Procedure, Edge, Default, Restriction}
 use Rattle.acl_rows.specs.Tables.{Tables, state_of}
 use Rattle.acl_rows.proofs.Counting.{is_over_limit}
 use Rattle.acl_rows.proofs.RowLists.{passing_row, some_row}

@@ -1,19 +1,18 @@
 -- The rows that an account holds, and those that name it.
-use Rattle.std.proofs.Common.{◌≡◌, ◌∙◌, ap, sym, Bool, true, false, cond, not, ◌&&◌, ◌||◌, List, [], ◌∷◌, filter, refl}
+use Rattle.std.proofs.Common.{◌≡◌, ◌∙◌, ap, sym, Bool, true, false, ◌&&◌, ◌||◌, List, filter, refl}
 use Rattle.std.proofs.Math.Bool.{and-false, or-false}
 use Rattle.std.specs.List.{list_any}
-use Rattle.acl_names.proofs.SameAuth.{equal_from_same_auth, same_auth_itself}
+use Rattle.acl_names.proofs.SameAuth.{equal_from_same_auth}
 use Rattle.acl_names.specs.AuthId.{same_auth}
 use Rattle.acl_names.specs.declared.auth.AuthId.{AuthId}
-use Rattle.acl_model.proofs.SameRows.{equal_from_same_row}
 use Rattle.acl_model.specs.Rows.{holder, same_row, some_name}
 use Rattle.acl_model.specs.declared.row.Row.{Row}
 use Rattle.acl_model.specs.declared.row.Row.TheVariants.{Account}
 use Rattle.acl_rows.specs.Conditions.{is_account}
 use Rattle.acl_rows.specs.Holders.{holds_as_grant, names_as_grant}
-use Rattle.acl_rows.specs.Tables.{Tables, has_account, has_row, state_of}
+use Rattle.acl_rows.specs.Tables.{Tables, has_account, state_of}
 use Rattle.acl_rows.proofs.RowLists.{any-filter}
-use Rattle.acl_rows.proofs.States.{account_is_no_grant, has_row-grant, same_auth_back}
+use Rattle.acl_rows.proofs.States.{same_auth_back}
 
 own_row : (accounts : List (AuthId × _)) (a b : AuthId) (u : Bool) → same_auth b a ≡ u → (has_account accounts a && u) ≡ (has_account accounts b && u)
 own_row accounts a b true is = ap (λ (x : AuthId). has_account accounts x && true) (sym (equal_from_same_auth b a is))
