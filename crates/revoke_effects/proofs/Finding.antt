@@ -33,7 +33,7 @@ some_held test p below passes = at (all_below 31 (λ q. not (test q))) refl
   where
     at : (t : Bool) → all_below 31 (λ q. not (test q)) ≡ t → not t ≡ true
     at true every =
-        let fails : not (test p) ≡ true = below_at 31 (λ q. not (test q)) p every below in
+        let fails : not (test p) ≡ true = below_at 31 p (λ q. not (test q)) every below in
         let never : not true ≡ true = rw passes at fails in
         cc
     at false some = refl

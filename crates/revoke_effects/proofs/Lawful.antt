@@ -82,7 +82,7 @@ named_fits privileges target accounts p legal named =
     elim (or_cases (privileges.all && has_level (level_of target) p && not (p == grant_option)) (holds privileges.plain p) named) [
       | inl of_all ↦ (and_parts privileges.all (has_level (level_of target) p) (and_parts (privileges.all && has_level (level_of target) p) (not (p == grant_option)) of_all).0).1
       | inr held ↦ implied (holds privileges.plain p) (has_level (level_of target) p) held
-          (below_at 31 (λ number. not (holds privileges.plain number) || has_level (level_of target) number) p (plain_fits privileges target accounts legal)
+          (below_at 31 p (λ number. not (holds privileges.plain number) || has_level (level_of target) number) (plain_fits privileges target accounts legal)
           (named_below privileges (level_of target) p named))
     ]
   where
