@@ -20,9 +20,9 @@ use Rattle.acl_stmt.specs.declared.limit.Limit.{Limit}
 use Rattle.acl_stmt.specs.declared.statement.Statement.{Statement}
 use Rattle.acl_stmt.specs.declared.target.Target.TheVariants as on
 use Rattle.priv_sets.specs.Levels.{grant_option}
-use Rattle.row_lists.proofs.Coming.{with_none}
-use Rattle.row_lists.proofs.Members.{has, not_both}
-use Rattle.row_lists.specs.Lists.{IsClosed, with_rows, without_rows}
+use Rattle.acl_rows.proofs.Coming.{with_none}
+use Rattle.acl_rows.proofs.RowLists.{has, not_both}
+use Rattle.acl_rows.specs.Lists.{IsClosed, with_rows, without_rows}
 
 -- ---- what goes
 

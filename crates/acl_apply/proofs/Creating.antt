@@ -32,7 +32,7 @@ use Rattle.acl_stmt.specs.declared.refusal.Refusal.{Refusal}
 use Rattle.acl_stmt.specs.declared.refusal.Refusal.TheVariants.{AccountExists, Full, Mandatory, NoMemory, NoSuchAccount, NoSuchGrant}
 use Rattle.acl_stmt.specs.declared.statement.Statement.TheVariants.{CreateUser}
 use Rattle.acl_apply.proofs.Renaming.{dropped, taken}
-use Rattle.acl_apply.specs.Causes.{IsFault}
+use Rattle.acl_apply.specs.Causes.{IsWantOrFault}
 use Rattle.acl_apply.specs.Created.{IsCreateCause, IsNoRoom, created_data, with_account}
 
 abbrev Named : Type 0
@@ -259,7 +259,7 @@ not_another (Some a) e other is =
     other a same
 
 pub taken_cause : (s after : State) (exists : Bool) (accounts : List Named) (options : AccountOptions) → exists ≡ false → (e : Refusal)
-    → IsFault (option_map (λ a. AccountExists a) (first_taken (stands s) (map (λ pair. pair.0) accounts))) e → IsCreateCause (first_fault s (CreateUser exists accounts options)) after e
+    → IsWantOrFault (option_map (λ a. AccountExists a) (first_taken (stands s) (map (λ pair. pair.0) accounts))) e → IsCreateCause (first_fault s (CreateUser exists accounts options)) after e
 taken_cause s after exists accounts options not_exists NoMemory is = tt
 taken_cause s after exists accounts options not_exists (AccountExists a) is = ap (λ b. first_fault s (CreateUser b accounts options)) not_exists ∙ fault_if_taken s accounts options ∙ is
 taken_cause s after exists accounts options not_exists (NoSuchAccount a) is = absurd (not_another (first_taken (stands s) (map (λ pair. pair.0) accounts)) (NoSuchAccount a) (λ b same. cc) is)

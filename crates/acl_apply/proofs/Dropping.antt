@@ -15,8 +15,8 @@ use Rattle.acl_rows.specs.Tables.{Tables, state_of}
 use Rattle.acl_stmt.specs.declared.refusal.Refusal.{Refusal}
 use Rattle.acl_stmt.specs.declared.refusal.Refusal.TheVariants.{Mandatory, NoSuchAccount}
 use Rattle.acl_stmt.specs.declared.statement.Statement.TheVariants.{DropUser}
-use Rattle.row_lists.proofs.Members.{has}
-use Rattle.row_lists.specs.Lists.{IsClosed, without_rows}
+use Rattle.acl_rows.proofs.RowLists.{has}
+use Rattle.acl_rows.specs.Lists.{IsClosed, without_rows}
 use Rattle.acl_apply.proofs.ByLists.{IsPlain, by_one_list, closed_by, unknown}
 
 abbrev missing : State → List AuthId → Option Refusal

@@ -13,8 +13,8 @@ use Rattle.acl_stmt.specs.declared.privileges.PrivList.{PrivList}
 use Rattle.acl_stmt.specs.declared.statement.Statement.TheVariants.{Grant}
 use Rattle.acl_stmt.specs.declared.target.Target.{Target}
 use Rattle.acl_stmt.specs.declared.target.Target.TheVariants as on
-use Rattle.row_lists.proofs.Members.{has, not_both}
-use Rattle.row_lists.specs.Lists.{HasBasis, IsClosed, IsReadyAmong, with_rows, without_rows}
+use Rattle.acl_rows.proofs.RowLists.{has, not_both}
+use Rattle.acl_rows.specs.Lists.{HasBasis, IsClosed, IsReadyAmong, with_rows, without_rows}
 use Rattle.acl_apply.proofs.ByLists.{IsPlain, by_lists, closed_by, names_left}
 
 -- an account that does not stand refuses the grant, and nothing else does

@@ -6,4 +6,3 @@ pub mod ByLists
 pub mod Dropping
 pub mod Granting
 pub mod Revoking
-pub mod Legal

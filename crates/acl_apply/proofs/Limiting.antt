@@ -7,10 +7,6 @@ use Rattle.acl_stmt.specs.declared.refusal.Refusal.{Refusal}
 use Rattle.acl_stmt.specs.declared.refusal.Refusal.TheVariants.{Full, NoMemory}
 use Rattle.acl_apply.specs.Causes.{IsOverLimit}
 
-pub none_of_none : {X : Type 0} (P : X → Type 0) → HasNone P []
-none_of_none P [] item later split = cc
-none_of_none P (first ∷ earlier) item later split = cc
-
 pub none_of_more : {X : Type 0} (P : X → Type 0) (x : X) (xs : List X) → (P x → ⊥) → HasNone P xs → HasNone P (x ∷ xs)
 none_of_more P x xs not_first rest [] item later split has =
     let same : item ≡ x = cc in

@@ -8,7 +8,7 @@ use Rattle.acl_names.specs.declared.policy.Verifier.{Verifier}
 use Rattle.acl_model.specs.Counts.{IsExceeded}
 use Rattle.acl_stmt.specs.declared.options.AccountOptions.{AccountOptions}
 use Rattle.acl_stmt.specs.declared.refusal.Full.TheVariants as full
-use Rattle.acl_apply.proofs.Limiting.{none_of_none}
+use Rattle.revoke_effects.proofs.Listing.{none_of_none}
 use Rattle.acl_apply.specs.Created.{IsCreateCause, IsCrowded}
 use Rattle.acl_model.specs.Effects.{after, changed}
 use Rattle.acl_stmt.specs.Entries.{are_limits_in_order, is_complete, is_entry, may_have_limits}
@@ -27,14 +27,14 @@ use Rattle.acl_model.specs.State.{State}
 use Rattle.acl_stmt.specs.declared.entry.Entry.{Entry}
 use Rattle.acl_stmt.specs.declared.refusal.Refusal.{Refusal}
 use Rattle.acl_stmt.specs.declared.refusal.Refusal.TheVariants.{AccountExists, Full, Mandatory, NoMemory, NoSuchAccount, NoSuchGrant}
-use Rattle.acl_apply.specs.Causes.{IsCause, IsFault}
+use Rattle.acl_apply.specs.Causes.{IsCause, IsWantOrFault}
 
 pub if_err_weaker : {X E : Type 0} (result : Result X E) (P Q : E → Type 0) → ((e : E) → P e → Q e) → IfErr result P → IfErr result Q
 if_err_weaker (Ok x) P Q weaker is = tt
 if_err_weaker (Err e) P Q weaker is = weaker e is
 
 -- a part's fault is that of the whole
-pub fault_of_part : (part whole : Option Refusal) → ((e : Refusal) → part ≡ Some e → whole ≡ Some e) → (e : Refusal) → IsFault part e → IsFault whole e
+pub fault_of_part : (part whole : Option Refusal) → ((e : Refusal) → part ≡ Some e → whole ≡ Some e) → (e : Refusal) → IsWantOrFault part e → IsWantOrFault whole e
 fault_of_part part whole first NoMemory is = tt
 fault_of_part part whole first (NoSuchAccount a) is = first (NoSuchAccount a) is
 fault_of_part part whole first (AccountExists a) is = first (AccountExists a) is
@@ -43,7 +43,7 @@ fault_of_part part whole first (NoSuchGrant a) is = first (NoSuchGrant a) is
 fault_of_part part whole first _ is = absurd is
 
 -- a fault refuses the statement
-pub fault_refuses : (state : State) (entry : Entry) (wanted : Option Refusal) → wanted ≡ first_fault state entry.statement → (e : Refusal) → IsFault wanted e → IsCause (IsRefused state entry) e
+pub fault_refuses : (state : State) (entry : Entry) (wanted : Option Refusal) → wanted ≡ first_fault state entry.statement → (e : Refusal) → IsWantOrFault wanted e → IsCause (IsRefused state entry) e
 fault_refuses state entry wanted same NoMemory is = tt
 fault_refuses state entry wanted same (NoSuchAccount a) is = cc
 fault_refuses state entry wanted same (AccountExists a) is = cc

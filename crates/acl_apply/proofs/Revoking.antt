@@ -16,10 +16,10 @@ use Rattle.acl_stmt.specs.declared.refusal.Refusal.TheVariants.{AccountExists, M
 use Rattle.acl_stmt.specs.declared.statement.Statement.TheVariants.{Revoke, RevokeAll}
 use Rattle.acl_stmt.specs.declared.target.Target.{Target}
 use Rattle.revoke_effects.proofs.Lawful.{given_level, given_names}
-use Rattle.row_lists.proofs.Members.{has, not_both}
-use Rattle.row_lists.specs.Lists.{HasBasis, IsClosed, IsReadyAmong, with_rows, without_rows}
+use Rattle.acl_rows.proofs.RowLists.{has, not_both}
+use Rattle.acl_rows.specs.Lists.{HasBasis, IsClosed, IsReadyAmong, with_rows, without_rows}
 use Rattle.acl_apply.proofs.ByLists.{IsPlain, by_lists, by_one_list, closed_by, names_left}
-use Rattle.acl_apply.specs.Causes.{IsFault}
+use Rattle.acl_apply.specs.Causes.{IsWantOrFault}
 use Rattle.acl_apply.specs.Revoked.{IsRevokeCause}
 
 -- ---- what is refused
@@ -36,7 +36,7 @@ not_another (Some a) e other is =
     other a same
 
 -- an account that does not stand refuses the statement
-pub missing_cause : (s : State) (privileges : PrivList) (target : Target) (accounts : List AuthId) (e : Refusal) → IsFault (no_account s accounts) e → IsRevokeCause s privileges target accounts e
+pub missing_cause : (s : State) (privileges : PrivList) (target : Target) (accounts : List AuthId) (e : Refusal) → IsWantOrFault (no_account s accounts) e → IsRevokeCause s privileges target accounts e
 missing_cause s privileges target accounts NoMemory is = tt
 missing_cause s privileges target accounts (NoSuchAccount a) is =
     revoke_fault s privileges target accounts

@@ -10,13 +10,13 @@ IsCause P NoMemory = Unit {0}
 IsCause P refusal = P refusal
 
 -- want of memory, or else just this fault
-abbrev pub IsFault : Option Refusal → Refusal → Type 0
-IsFault wanted NoMemory = Unit {0}
-IsFault wanted (NoSuchAccount account) = wanted ≡ Some (NoSuchAccount account)
-IsFault wanted (AccountExists account) = wanted ≡ Some (AccountExists account)
-IsFault wanted (Mandatory role) = wanted ≡ Some (Mandatory role)
-IsFault wanted (NoSuchGrant account) = wanted ≡ Some (NoSuchGrant account)
-IsFault wanted _ = ⊥
+abbrev pub IsWantOrFault : Option Refusal → Refusal → Type 0
+IsWantOrFault wanted NoMemory = Unit {0}
+IsWantOrFault wanted (NoSuchAccount account) = wanted ≡ Some (NoSuchAccount account)
+IsWantOrFault wanted (AccountExists account) = wanted ≡ Some (AccountExists account)
+IsWantOrFault wanted (Mandatory role) = wanted ≡ Some (Mandatory role)
+IsWantOrFault wanted (NoSuchGrant account) = wanted ≡ Some (NoSuchGrant account)
+IsWantOrFault wanted _ = ⊥
 
 -- want of memory, or else a limit that is exceeded
 abbrev pub IsOverLimit : (FullOf → Type 0) → Refusal → Type 0

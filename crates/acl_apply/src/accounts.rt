@@ -7,14 +7,14 @@ ghost use Rattle.acl_model.specs.Rows.{lists};
 ghost use Rattle.acl_model.specs.State.{is_mandatory, stands};
 ghost use Rattle.acl_rows.specs.Tables.{state_of};
 ghost use Rattle.acl_stmt.specs.declared.refusal.Refusal.TheVariants.{NoSuchAccount};
-ghost use Rattle.acl_apply.specs.Causes.{IsFault};
+ghost use Rattle.acl_apply.specs.Causes.{IsWantOrFault};
 
 use acl_names::AuthId;
 use acl_rows::Rows;
 use acl_stmt::Refusal;
 use std::alloc::Global;
 
-pub(crate) fn stands(rows: &Rows, account: &AuthId) -> bool
+pub(crate) fn is_standing(rows: &Rows, account: &AuthId) -> bool
     ensures { result ≡ stands (state_of rows.now) account.now }
 {
     rows.account(account).is_some()
@@ -33,7 +33,7 @@ pub(crate) fn is_among(names: &[AuthId], name: &AuthId) -> bool
 }
 
 fn no_such_account(alloc: Global, account: &AuthId) -> Refusal
-    ensures { IsFault (Some (NoSuchAccount account.now)) result }
+    ensures { IsWantOrFault (Some (NoSuchAccount account.now)) result }
 {
     match account.copy(alloc) {
         Ok(account) => Refusal::NoSuchAccount { account },
@@ -44,13 +44,13 @@ fn no_such_account(alloc: Global, account: &AuthId) -> Refusal
 fn first_missing<'a>(rows: &Rows, names: &'a [AuthId]) -> Option<&'a AuthId>
     ensures { option_copied result ≡ find (λ a. not (stands (state_of rows.now) a)) names.now }
 {
-    names.iter().find(|name| !stands(rows, name))
+    names.iter().find(|name| !is_standing(rows, name))
 }
 
 /// Refuses a list with an account that does not stand.
 pub(crate) fn all_stand(alloc: Global, rows: &Rows, names: &[AuthId]) -> Result<(), Refusal>
     ensures ok { OnOk result (no_account (state_of rows.now) names.now ≡ None) }
-    ensures err { IfErr result (IsFault (no_account (state_of rows.now) names.now)) }
+    ensures err { IfErr result (IsWantOrFault (no_account (state_of rows.now) names.now)) }
 {
     let Some(account) = first_missing(rows, names) else {
         return Ok(());
@@ -64,7 +64,7 @@ fn first_gone<'a>(rows: &Rows, names: &'a [AuthId]) -> Option<&'a AuthId>
 {
     for i in 0..names.len() {
         let name = &names[i];
-        if is_among(&names[..i], name) || !stands(rows, name) {
+        if is_among(&names[..i], name) || !is_standing(rows, name) {
             return Some(name);
         }
     }
@@ -75,7 +75,7 @@ fn first_gone<'a>(rows: &Rows, names: &'a [AuthId]) -> Option<&'a AuthId>
 pub(crate) fn none_gone(alloc: Global, rows: &Rows, names: &[AuthId]) -> Result<(), Refusal>
     ensures ok { OnOk result (option_map (λ a. NoSuchAccount a)
         (first_gone (stands (state_of rows.now)) names.now) ≡ None) }
-    ensures err { IfErr result (IsFault (option_map (λ a. NoSuchAccount a)
+    ensures err { IfErr result (IsWantOrFault (option_map (λ a. NoSuchAccount a)
         (first_gone (stands (state_of rows.now)) names.now))) }
 {
     let Some(account) = first_gone(rows, names) else {

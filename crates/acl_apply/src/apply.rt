@@ -2,7 +2,7 @@ ghost use Rattle.std.specs.Prelude.{◌≡◌, IfErr, IfOk, IsTrue, OnOk};
 ghost use Rattle.acl_model.specs.Acceptance.{IsAccepted, IsFeasible, IsRefused};
 ghost use Rattle.acl_model.specs.Effects.{after};
 ghost use Rattle.acl_rows.specs.Tables.{state_of};
-ghost use Rattle.acl_apply.specs.Applied.{applied};
+ghost use Rattle.acl_apply.specs.Applied.{IsPreparedOn, applied};
 ghost use Rattle.acl_apply.specs.Built.{is_built};
 ghost use Rattle.acl_apply.specs.Causes.{IsCause};
 
@@ -30,6 +30,7 @@ pub fn prepare(alloc: Global, rows: &mut Rows, entry: &Entry) -> Result<Change, 
     ensures accepted { OnOk result (IsAccepted (state_of rows.old) entry.now) }
     ensures change { IfOk result (λ change.
         state_of (applied change rows.old) ≡ after entry.now (state_of rows.old)) }
+    ensures prepared { IfOk result (λ change. IsPreparedOn change rows.new) }
     ensures err { IfErr result (IsCause (IsRefused (state_of rows.old) entry.now)) }
 {
     let changed = rows_after(alloc, rows, entry)?;
@@ -37,8 +38,9 @@ pub fn prepare(alloc: Global, rows: &mut Rows, entry: &Entry) -> Result<Change, 
     Ok(Change { rows: changed })
 }
 
-/// Carries out the change, which was prepared last on these rows. It takes no memory.
+/// Carries out the change, which needs to be the one that was prepared last on these rows. It takes no memory.
 pub fn commit(rows: &mut Rows, change: Change)
+    requires prepared { IsPreparedOn change rows.old }
     ensures { rows.new ≡ applied change rows.old }
 {
     let Change { rows: changed } = change;

@@ -7,10 +7,10 @@ ghost use Rattle.acl_model.specs.State.{stands};
 ghost use Rattle.acl_rows.specs.Tables.{state_of};
 ghost use Rattle.acl_stmt.specs.declared.statement.Statement.TheVariants.{CreateUser};
 ghost use Rattle.acl_stmt.specs.declared.refusal.Refusal.TheVariants.{AccountExists};
-ghost use Rattle.acl_apply.specs.Causes.{IsFault};
+ghost use Rattle.acl_apply.specs.Causes.{IsWantOrFault};
 ghost use Rattle.acl_apply.specs.Created.{IsCreateCause, IsNoRoom, created_data, with_account};
 
-use crate::accounts::{is_among, stands};
+use crate::accounts::{is_among, is_standing};
 use acl_names::{AuthId, LockTime, Policy, Verifier};
 use acl_rows::{AccountData, Row, Rows};
 use acl_stmt::{AccountOptions, Full, Refusal};
@@ -86,7 +86,7 @@ fn create(
     ensures ok { OnOk result (state_of rows.new ≡ with_account account.now value (state_of rows.old)) }
     ensures err { IfErr result (IsNoRoom account.now (state_of rows.old)) }
 {
-    if stands(rows, account) {
+    if is_standing(rows, account) {
         return Ok(());
     }
     if !rows.has_room() {
@@ -120,7 +120,7 @@ fn first_taken<'a>(rows: &Rows, names: &'a [AuthId]) -> Option<&'a AuthId>
 {
     for i in 0..names.len() {
         let name = &names[i];
-        if is_among(&names[..i], name) || stands(rows, name) {
+        if is_among(&names[..i], name) || is_standing(rows, name) {
             return Some(name);
         }
     }
@@ -130,7 +130,7 @@ fn first_taken<'a>(rows: &Rows, names: &'a [AuthId]) -> Option<&'a AuthId>
 fn none_taken(alloc: Global, rows: &Rows, accounts: &[(AuthId, Verifier)]) -> Result<(), Refusal>
     ensures ok { OnOk result (first_taken (stands (state_of rows.now))
         (map (λ pair. pair.0) accounts.now) ≡ None) }
-    ensures err { IfErr result (IsFault (option_map (λ a. AccountExists a)
+    ensures err { IfErr result (IsWantOrFault (option_map (λ a. AccountExists a)
         (first_taken (stands (state_of rows.now)) (map (λ pair. pair.0) accounts.now)))) }
 {
     let Ok(names) = names_of(alloc, accounts) else {

@@ -8,14 +8,13 @@ ghost use Rattle.acl_model.specs.State.{is_mandatory, stands};
 ghost use Rattle.acl_rows.specs.Tables.{state_of};
 ghost use Rattle.acl_stmt.specs.declared.refusal.Refusal.TheVariants.{Mandatory};
 ghost use Rattle.acl_stmt.specs.declared.statement.Statement.TheVariants.{DropUser};
-ghost use Rattle.acl_apply.specs.Causes.{IsFault};
+ghost use Rattle.acl_apply.specs.Causes.{IsWantOrFault};
 
-use crate::accounts::{is_mandatory, none_gone, stands};
+use crate::accounts::{is_mandatory, is_standing, none_gone};
 use crate::lists::rows_without;
 use acl_names::AuthId;
-use acl_rows::Rows;
+use acl_rows::{Rows, rows_naming_any};
 use acl_stmt::Refusal;
-use row_lists::rows_naming_any;
 use std::alloc::Global;
 
 /// The rows after DROP USER.
@@ -28,7 +27,7 @@ pub(crate) fn drop_users(
     ensures fault { OnOk result (first_fault (state_of before.now) (DropUser if_exists accounts.now) ≡ None) }
     ensures changed { IfOk result (λ rows.
         state_of rows ≡ changed [] (DropUser if_exists accounts.now) (state_of before.now)) }
-    ensures err { IfErr result (IsFault (first_fault (state_of before.now) (DropUser if_exists accounts.now))) }
+    ensures err { IfErr result (IsWantOrFault (first_fault (state_of before.now) (DropUser if_exists accounts.now))) }
 {
     may_drop(alloc, before, if_exists, accounts)?;
     let Ok(gone) = rows_naming_any(alloc, before, accounts) else {
@@ -44,7 +43,7 @@ fn may_drop(
     accounts: &[AuthId],
 ) -> Result<(), Refusal>
     ensures ok { OnOk result (first_fault (state_of before.now) (DropUser if_exists accounts.now) ≡ None) }
-    ensures err { IfErr result (IsFault (first_fault (state_of before.now) (DropUser if_exists accounts.now))) }
+    ensures err { IfErr result (IsWantOrFault (first_fault (state_of before.now) (DropUser if_exists accounts.now))) }
 {
     if if_exists {
         return none_mandatory(alloc, before, accounts);
@@ -56,7 +55,7 @@ fn may_drop(
 fn is_kept(rows: &Rows, account: &AuthId) -> bool
     ensures { result ≡ (stands (state_of rows.now) account.now && is_mandatory (state_of rows.now) account.now) }
 {
-    stands(rows, account) && is_mandatory(rows, account)
+    is_standing(rows, account) && is_mandatory(rows, account)
 }
 
 // The first account that stands and is a mandatory role.
@@ -69,7 +68,7 @@ fn first_kept<'a>(rows: &Rows, accounts: &'a [AuthId]) -> Option<&'a AuthId>
 fn none_mandatory(alloc: Global, rows: &Rows, accounts: &[AuthId]) -> Result<(), Refusal>
     ensures ok { OnOk result (option_map (λ a. Mandatory a)
         (find (λ a. stands (state_of rows.now) a && is_mandatory (state_of rows.now) a) accounts.now) ≡ None) }
-    ensures err { IfErr result (IsFault (option_map (λ a. Mandatory a)
+    ensures err { IfErr result (IsWantOrFault (option_map (λ a. Mandatory a)
         (find (λ a. stands (state_of rows.now) a && is_mandatory (state_of rows.now) a) accounts.now))) }
 {
     let Some(role) = first_kept(rows, accounts) else {

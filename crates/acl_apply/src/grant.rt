@@ -5,7 +5,7 @@ ghost use Rattle.acl_model.specs.Refusals.{first_fault};
 ghost use Rattle.acl_rows.specs.Tables.{state_of};
 ghost use Rattle.acl_stmt.specs.Entries.{is_entry};
 ghost use Rattle.acl_stmt.specs.declared.statement.Statement.TheVariants.{Grant};
-ghost use Rattle.acl_apply.specs.Causes.{IsFault};
+ghost use Rattle.acl_apply.specs.Causes.{IsWantOrFault};
 
 use crate::accounts::all_stand;
 use crate::lists::{rows_with, rows_without};
@@ -27,7 +27,7 @@ pub(crate) fn grant_privileges(
         (Grant grant.now.privileges.now grant.now.target.now grant.now.accounts.now grant.now.with_grant_option) ≡ None) }
     ensures changed { IfOk result (λ rows. state_of rows ≡ changed limits.now
         (Grant grant.now.privileges.now grant.now.target.now grant.now.accounts.now grant.now.with_grant_option) (state_of before.now)) }
-    ensures err { IfErr result (IsFault (first_fault (state_of before.now)
+    ensures err { IfErr result (IsWantOrFault (first_fault (state_of before.now)
         (Grant grant.now.privileges.now grant.now.target.now grant.now.accounts.now grant.now.with_grant_option))) }
 {
     all_stand(alloc, before, grant.accounts)?;

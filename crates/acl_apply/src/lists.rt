@@ -5,11 +5,10 @@ ghost use Rattle.acl_model.specs.Rows.{same_row};
 ghost use Rattle.acl_model.specs.declared.row.Row.{Row as RowValue};
 ghost use Rattle.acl_rows.specs.Tables.{state_of};
 ghost use Rattle.acl_stmt.specs.declared.refusal.Refusal.TheVariants.{NoMemory};
-ghost use Rattle.row_lists.specs.Lists.{IsClosed, IsReadyAmong, with_rows, without_rows};
+ghost use Rattle.acl_rows.specs.Lists.{IsClosed, IsReadyAmong, with_rows, without_rows};
 
-use acl_rows::{Row, Rows};
+use acl_rows::{Row, Rows, put_all, take_all};
 use acl_stmt::Refusal;
-use row_lists::{put_all, take_all};
 use std::alloc::Global;
 
 /// A copy of the rows without those of a list.

@@ -8,10 +8,10 @@ ghost use Rattle.acl_model.specs.State.{is_mandatory, stands};
 ghost use Rattle.acl_rows.specs.Changes.{renamed};
 ghost use Rattle.acl_rows.specs.Tables.{state_of};
 ghost use Rattle.acl_stmt.specs.declared.statement.Statement.TheVariants.{RenameUser};
-ghost use Rattle.acl_apply.specs.Causes.{IsFault};
+ghost use Rattle.acl_apply.specs.Causes.{IsWantOrFault};
 ghost use Rattle.acl_apply.specs.Renamed.{pair_fault};
 
-use crate::accounts::{is_mandatory, stands};
+use crate::accounts::{is_mandatory, is_standing};
 use acl_names::AuthId;
 use acl_rows::{Row, Rows};
 use acl_stmt::Refusal;
@@ -26,7 +26,7 @@ pub(crate) fn rename_users(
     ensures fault { OnOk result (first_fault (state_of before.now) (RenameUser pairs.now) ≡ None) }
     ensures changed { IfOk result (λ rows.
         state_of rows ≡ changed [] (RenameUser pairs.now) (state_of before.now)) }
-    ensures err { IfErr result (IsFault (first_fault (state_of before.now) (RenameUser pairs.now))) }
+    ensures err { IfErr result (IsWantOrFault (first_fault (state_of before.now) (RenameUser pairs.now))) }
 {
     let Ok(mut rows) = before.copy(alloc) else {
         return Err(Refusal::NoMemory);
@@ -46,14 +46,14 @@ pub(crate) fn rename_users(
 fn rename_user(alloc: Global, rows: &mut Rows, old: &AuthId, new: &AuthId) -> Result<(), Refusal>
     ensures fault { OnOk result (pair_fault (stands (state_of rows.old)) old.now new.now ≡ None) }
     ensures ok { OnOk result (state_of rows.new ≡ renamed old.now new.now (state_of rows.old)) }
-    ensures err { IfErr result (IsFault (pair_fault (stands (state_of rows.old)) old.now new.now)) }
+    ensures err { IfErr result (IsWantOrFault (pair_fault (stands (state_of rows.old)) old.now new.now)) }
 {
-    if !stands(rows, old) {
+    if !is_standing(rows, old) {
         let account = old.copy(alloc).map_err(|_| Refusal::NoMemory)?;
         return Err(Refusal::NoSuchAccount { account });
     }
     let account = new.copy(alloc).map_err(|_| Refusal::NoMemory)?;
-    if stands(rows, new) {
+    if is_standing(rows, new) {
         return Err(Refusal::AccountExists { account });
     }
     rows.rename(alloc, old, account)

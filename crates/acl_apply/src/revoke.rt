@@ -6,7 +6,7 @@ ghost use Rattle.acl_rows.specs.Tables.{state_of};
 ghost use Rattle.acl_stmt.specs.Statements.{is_statement};
 ghost use Rattle.acl_stmt.specs.declared.statement.Statement.TheVariants.{Revoke, RevokeAll};
 ghost use Rattle.revoke_effects.specs.Found.{IsGrantFault};
-ghost use Rattle.acl_apply.specs.Causes.{IsFault};
+ghost use Rattle.acl_apply.specs.Causes.{IsWantOrFault};
 ghost use Rattle.acl_apply.specs.Revoked.{IsRevokeCause};
 
 use crate::accounts::all_stand;
@@ -85,7 +85,7 @@ pub(crate) fn revoke_all(alloc: Global, before: &Rows, accounts: &[AuthId]) -> R
     ensures fault { OnOk result (first_fault (state_of before.now) (RevokeAll accounts.now) ≡ None) }
     ensures changed { IfOk result (λ rows.
         state_of rows ≡ changed [] (RevokeAll accounts.now) (state_of before.now)) }
-    ensures err { IfErr result (IsFault (first_fault (state_of before.now) (RevokeAll accounts.now))) }
+    ensures err { IfErr result (IsWantOrFault (first_fault (state_of before.now) (RevokeAll accounts.now))) }
 {
     all_stand(alloc, before, accounts)?;
     let Ok(gone) = all_rows_taken(alloc, before, accounts) else {

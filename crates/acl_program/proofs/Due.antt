@@ -5,13 +5,13 @@ use Rattle.acl_program.specs.Causes.{cause_of_fault, cause_of_refusal, cause_so_
 use Rattle.acl_program.specs.Rehearsal.{IsRehearsal}
 use Rattle.acl_program.specs.Endings.{ComesExactly, IsCausedBy, IsDue, IsMade, IsOrEarlier, IsReadFor}
 use Rattle.acl_program.specs.Scripts.{HasScript, IsBadScript, IsTooMuch}
-use Rattle.acl_program.specs.Streams.{IsCutBeyond, IsEndLeft, IsReadWhole}
+use Rattle.acl_program.specs.Streams.{IsCutBeyond, IsEndLeft, IsReadWhole, most_bytes}
 use Rattle.acl_program.specs.Words.{is_step}
 use Rattle.acl_program.specs.declared.cause.Cause.{Cause}
 use Rattle.acl_program.specs.declared.cause.Cause.TheVariants.{Fine, Usage, BadScript, ReadFault, WriteFault, NoMemory, Limit}
 use Rattle.acl_program.specs.declared.input.InputFault.{InputFault}
 use Rattle.acl_program.specs.declared.input.InputFault.TheVariants.{Failed, TooLong, NoMemory as NoMemoryForInput}
-use Rattle.line_reports.specs.declared.report.Report.{Report}
+use Rattle.line_answers.specs.declared.report.Report.{Report}
 use Rattle.grant_refusal.specs.declared.ParseRefusal.{ParseRefusal}
 use Rattle.script_lines.specs.Refusals.{IsScriptRefusal, RefusesScript}
 use Rattle.script_lines.specs.declared.refusal.ScriptRefusal.{ScriptRefusal}
@@ -41,13 +41,13 @@ pub due_memory : (left : Option (List ℕ)) (words : List (List ℕ)) → IfSome
 due_memory None words = tt
 due_memory (Some bytes) words = record { bad = λ line refusal asked bad. inr (inr refl); limit = λ which number asked much. inr (inr refl) }
 
-beyond_bytes : (bytes : List ℕ) → 16777216 < length bytes → (which : Which) (number : ℕ) → IsTooMuch bytes which number → Limit Bytes 16777216 ≡ Limit which number
+beyond_bytes : (bytes : List ℕ) → most_bytes < length bytes → (which : Which) (number : ℕ) → IsTooMuch bytes which number → Limit Bytes most_bytes ≡ Limit which number
 beyond_bytes bytes long Bytes number much = ap (Limit Bytes) (sym much.0)
 beyond_bytes bytes long Lines number much = absurd (omega (arith, much.1))
 beyond_bytes bytes long Sessions number much = absurd (omega (arith, much.1.bytes_are))
 
 -- too many bytes are told before anything else of them
-pub due_long : (left after : Option (List ℕ)) (words : List (List ℕ)) → IfSome left (λ bytes. IsCutBeyond 16777216 bytes after) → IfSome left (λ bytes. IsDue words bytes (Limit Bytes 16777216))
+pub due_long : (left after : Option (List ℕ)) (words : List (List ℕ)) → IfSome left (λ bytes. IsCutBeyond most_bytes bytes after) → IfSome left (λ bytes. IsDue words bytes (Limit Bytes most_bytes))
 due_long None after words cut = tt
 due_long (Some bytes) after words cut = record {
   bad = λ line refusal asked bad. absurd (omega (arith, cut.0, bad.within.bytes_are));
@@ -180,7 +180,7 @@ made_otherwise bytes cause made = (
 )
 
 -- a refusal within the limit of bytes
-pub made_refused : (bytes : List ℕ) (refusal : ScriptRefusal) → length bytes ≤ 16777216 → IsScriptRefusal (IsBuiltCommand is_built) (IsBuiltRefusal is_built) bytes refusal → IsMade bytes (cause_of_refusal refusal)
+pub made_refused : (bytes : List ℕ) (refusal : ScriptRefusal) → length bytes ≤ most_bytes → IsScriptRefusal (IsBuiltCommand is_built) (IsBuiltRefusal is_built) bytes refusal → IsMade bytes (cause_of_refusal refusal)
 made_refused bytes (script.BadLine number parse) short refused = refused
 made_refused bytes (script.Limit Bytes number) short refused = absurd (omega (arith, refused.1))
 made_refused bytes (script.Limit Lines number) short refused = refused
@@ -204,7 +204,7 @@ err_otherwise (Ok report) bytes made err = tt
 err_otherwise (Err cause) bytes made err = (err, (made_otherwise bytes cause made).1.1)
 
 -- an input that was not read
-pub due_input : (left after : Option (List ℕ)) (words : List (List ℕ)) (fault : InputFault) → (fault ≡ TooLong → IfSome left (λ bytes. IsCutBeyond 16777216 bytes after))
+pub due_input : (left after : Option (List ℕ)) (words : List (List ℕ)) (fault : InputFault) → (fault ≡ TooLong → IfSome left (λ bytes. IsCutBeyond most_bytes bytes after))
     → IfSome left (λ bytes. IsDue words bytes (cause_of_fault fault))
 due_input left after words Failed cut = due_fault left words
 due_input left after words TooLong cut = due_long left after words (cut refl)

@@ -1,10 +1,11 @@
 -- How the program may end.
 use Rattle.std.specs.Prelude.{ℕ, List, [], ◌++◌, codes, decimal, Result, Ok, Err}
+use Rattle.acl_program.specs.Streams.{most_bytes}
 use Rattle.acl_program.specs.declared.cause.Cause.{Cause}
 use Rattle.acl_program.specs.declared.cause.Cause.TheVariants.{Fine, Usage, BadScript, ReadFault, WriteFault, NoMemory, Limit}
 use Rattle.acl_program.specs.declared.input.InputFault.{InputFault}
 use Rattle.acl_program.specs.declared.input.InputFault.TheVariants.{Failed, TooLong, NoMemory as NoMemoryForInput}
-use Rattle.line_reports.specs.declared.report.Report.{Report}
+use Rattle.line_answers.specs.declared.report.Report.{Report}
 use Rattle.grant_refusal.specs.declared.ParseRefusal.{ParseRefusal}
 use Rattle.grant_refusal.specs.declared.ParseRefusal.TheVariants as parse
 use Rattle.priv_sets.specs.Privileges.{privilege_name}
@@ -24,10 +25,10 @@ status NoMemory = 8
 status (Limit which number) = 9
 
 -- what a limit counts
-abbrev pub counted : Which → List ℕ
-counted Bytes = codes "bytes"
-counted Lines = codes "lines"
-counted Sessions = codes "sessions"
+abbrev pub limit_name : Which → List ℕ
+limit_name Bytes = codes "bytes"
+limit_name Lines = codes "lines"
+limit_name Sessions = codes "sessions"
 
 -- why a line is refused
 abbrev pub refusal_text : ParseRefusal → List ℕ
@@ -44,12 +45,12 @@ text_of_cause (BadScript line refusal) = codes "line " ++ (decimal line ++ (code
 text_of_cause ReadFault = codes "read fault\n"
 text_of_cause WriteFault = codes "write fault\n"
 text_of_cause NoMemory = codes "no memory\n"
-text_of_cause (Limit which number) = codes "limit " ++ (counted which ++ (codes " " ++ (decimal number ++ codes "\n")))
+text_of_cause (Limit which number) = codes "limit " ++ (limit_name which ++ (codes " " ++ (decimal number ++ codes "\n")))
 
 -- how the program ends where its input is not read
 abbrev pub cause_of_fault : InputFault → Cause
 cause_of_fault Failed = ReadFault
-cause_of_fault TooLong = Limit Bytes 16777216
+cause_of_fault TooLong = Limit Bytes most_bytes
 cause_of_fault NoMemoryForInput = NoMemory
 
 -- how it ends where its script is refused

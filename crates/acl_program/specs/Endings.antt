@@ -2,12 +2,12 @@
 use Rattle.std.specs.Prelude.{◌≡◌, ◌⊎◌, ℕ, ◌≤◌, false, true, List, [], ◌++◌, Option, None, Some, IsSome}
 use Rattle.acl_ports.specs.Faults.{next_count}
 use Rattle.acl_program.specs.Scripts.{HasScript, IsBadScript, IsTooMuch}
-use Rattle.acl_program.specs.Streams.{IsCutBeyond, IsEndLeft, IsPrefixWritten}
+use Rattle.acl_program.specs.Streams.{IsCutBeyond, IsEndLeft, IsPrefixWritten, most_bytes}
 use Rattle.acl_program.specs.Words.{is_step}
 use Rattle.acl_program.specs.declared.cause.Cause.{Cause}
 use Rattle.acl_program.specs.declared.cause.Cause.TheVariants.{Fine, Usage, BadScript, ReadFault, WriteFault, NoMemory, Limit}
 use Rattle.grant_refusal.specs.declared.ParseRefusal.{ParseRefusal}
-use Rattle.line_reports.specs.declared.report.Report.{Report}
+use Rattle.line_answers.specs.declared.report.Report.{Report}
 use Rattle.script_lines.specs.declared.refusal.Which.{Which}
 use Rattle.script_lines.specs.declared.refusal.Which.TheVariants.{Bytes, Lines, Sessions}
 
@@ -33,7 +33,7 @@ IsReadFor (BadScript line refusal) bytes left = left ≡ Some []
 IsReadFor ReadFault bytes left = IsEndLeft bytes left
 IsReadFor WriteFault bytes left = left ≡ Some []
 IsReadFor NoMemory bytes left = IsEndLeft bytes left
-IsReadFor (Limit Bytes number) bytes left = IsCutBeyond 16777216 bytes left
+IsReadFor (Limit Bytes number) bytes left = IsCutBeyond most_bytes bytes left
 IsReadFor (Limit Lines number) bytes left = left ≡ Some []
 IsReadFor (Limit Sessions number) bytes left = left ≡ Some []
 

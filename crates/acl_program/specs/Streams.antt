@@ -1,6 +1,10 @@
 -- Inputs that are read whole, and texts that are written whole.
 use Rattle.std.specs.Prelude.{◌≡◌, ℕ, ◌+◌, ◌<◌, ◌≤◌, List, [], ◌++◌, length, take, drop, Option, Some}
 
+-- the most bytes that a script may have: 16 MiB
+abbrev pub most_bytes : ℕ
+most_bytes = 16777216
+
 -- these bytes were read, all of them, and none is left
 abbrev pub IsReadWhole : List ℕ → List ℕ → Option (List ℕ) → Type 0
 IsReadWhole bytes read left = (read ≡ bytes) × (left ≡ Some [])

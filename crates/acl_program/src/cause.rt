@@ -1,7 +1,7 @@
 //! Why the program ended, with its status and its line on the error stream.
 ghost use Rattle.std.specs.Prelude.{◌≡◌, ◌++◌, Some, IfSome, OnErr, OnOk};
 ghost use Rattle.acl_ports.specs.Faults.{HasCause};
-ghost use Rattle.acl_program.specs.Causes.{cause_of_fault, cause_of_refusal, counted as counted_text, refusal_text, status, text_of_cause};
+ghost use Rattle.acl_program.specs.Causes.{cause_of_fault, cause_of_refusal, limit_name as name_of_limit, refusal_text, status, text_of_cause};
 ghost use Rattle.acl_program.specs.Streams.{IsPrefixWritten};
 ghost use Rattle.acl_program.specs.declared.cause.Cause.TheVariants.{BadScript};
 
@@ -86,7 +86,13 @@ pub(crate) fn tell<E: Sink>(err: &mut E, cause: &Cause) -> Result<(), Failed>
         Cause::NoMemory => write_parts(err, &["no memory\n"]),
         Cause::Limit { which, number } => {
             let mut digits = itoa::Buffer::new();
-            let parts = ["limit ", counted(which), " ", digits.format(number), "\n"];
+            let parts = [
+                "limit ",
+                limit_name(which),
+                " ",
+                digits.format(number),
+                "\n",
+            ];
             write_parts(err, &parts)
         }
     }
@@ -118,8 +124,8 @@ fn tell_bad_line<E: Sink>(err: &mut E, line: u32, refusal: ParseRefusal) -> Resu
     }
 }
 
-fn counted(which: Which) -> &'static str
-    ensures { result.now ≡ counted_text which }
+fn limit_name(which: Which) -> &'static str
+    ensures { result.now ≡ name_of_limit which }
 {
     match which {
         Which::Bytes => "bytes",

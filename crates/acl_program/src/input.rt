@@ -1,7 +1,7 @@
 //! A whole input, read into memory.
 ghost use Rattle.std.specs.Prelude.{◌≡◌, ◌≤◌, length, IfOk, IfSome};
 ghost use Rattle.acl_ports.specs.Faults.{next_count};
-ghost use Rattle.acl_program.specs.Streams.{IsReadWhole, IsCutBeyond, IsEndLeft};
+ghost use Rattle.acl_program.specs.Streams.{IsReadWhole, IsCutBeyond, IsEndLeft, most_bytes};
 
 use acl_ports::Source;
 use std::alloc::Global;
@@ -28,9 +28,9 @@ pub(crate) enum InputFault {
 pub(crate) fn read_all<S: Source>(alloc: Global, source: &mut S) -> Result<Vec<u8>, InputFault>
     ensures ok { IfSome (S.left source.old) (λ bytes.
         IfOk result (λ read. IsReadWhole bytes read.items (S.left source.new))) }
-    ensures within { IfOk result (λ read. length read.items ≤ MOST_BYTES) }
+    ensures within { IfOk result (λ read. length read.items ≤ most_bytes) }
     ensures too_long { result ≡ Err InputFault.TooLong →
-        IfSome (S.left source.old) (λ bytes. IsCutBeyond MOST_BYTES bytes (S.left source.new)) }
+        IfSome (S.left source.old) (λ bytes. IsCutBeyond most_bytes bytes (S.left source.new)) }
     ensures failed { result ≡ Err InputFault.Failed →
         next_count (S.faults source.old) ≤ S.faults source.new }
     ensures faults { S.faults source.old ≤ S.faults source.new }
@@ -52,46 +52,4 @@ pub(crate) fn read_all<S: Source>(alloc: Global, source: &mut S) -> Result<Vec<u
             .map_err(|_| InputFault::NoMemory)?;
     }
     Err(InputFault::TooLong)
-}
-
-#[cfg(test)]
-mod tests {
-    use super::*;
-    use acl_ports::MemorySource;
-    use std::test::Fail;
-
-    #[test]
-    fn reads_to_the_end_or_to_the_fault(rt: HostRuntime) -> Result<(), Fail> {
-        let none: &[u64] = &[];
-        for (text, piece, failing, wanted) in [
-            ("", 3, none, Ok("")),
-            ("SELECT", 1, none, Ok("SELECT")),
-            ("SELECT", 3, none, Ok("SELECT")),
-            ("SELECT", 100, none, Ok("SELECT")),
-            ("SELECT", 3, &[1], Err(InputFault::Failed)),
-        ] {
-            assert!(rt; piece >= 1);
-            let bytes = text.as_bytes().to_vec(rt.alloc())?;
-            let mut source = MemorySource::new(bytes, piece, failing.to_vec(rt.alloc())?);
-            let read = read_all(rt.alloc(), &mut source);
-            let read = read.as_ref().map(|bytes| bytes.as_slice());
-            let wanted = wanted.map(|text| text.as_bytes());
-            assert_eq!(rt; read.map_err(|fault| *fault), wanted, "{text:?} by {piece}");
-        }
-        Ok(())
-    }
-
-    #[test]
-    fn takes_sixteen_mebibytes(rt: HostRuntime) -> Result<(), Fail> {
-        for (length, wanted) in [
-            (16_777_216, Ok(16_777_216)),
-            (16_777_217, Err(InputFault::TooLong)),
-        ] {
-            let bytes = vec![in rt.alloc(); 0; length]?;
-            let mut source = MemorySource::new(bytes, usize::MAX, Vec::new(rt.alloc()));
-            let read = read_all(rt.alloc(), &mut source);
-            assert_eq!(rt; read.map(|bytes| bytes.len()), wanted);
-        }
-        Ok(())
-    }
 }

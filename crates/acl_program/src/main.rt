@@ -16,7 +16,9 @@ use std::fs::File;
 use std::process::ExitCode;
 use std::{env, io};
 
-// Nothing is kept yet, so no journal is opened: the disk is an empty one in memory.
+/// Hands `serve` the words after the program's name, the file that the second of them names as the script, standard output
+/// and the standard error stream, and ends with its status. That it hands on just these is not proved. Nothing is kept yet, so
+/// no journal is opened: the disk is an empty one in memory.
 fn main(rt: HostRuntime) -> ExitCode {
     let mut out = StdSink::new(Some(rt.stdout()));
     let mut err = StdSink::new(Some(rt.stderr()));

@@ -34,22 +34,3 @@ pub(crate) fn write_parts<K: Sink>(sink: &mut K, parts: &[&str]) -> Result<(), F
     }
     Ok(())
 }
-
-#[cfg(test)]
-mod tests {
-    use super::*;
-    use acl_ports::MemorySink;
-    use std::test::Fail;
-
-    #[test]
-    fn writes_all_or_up_to_the_fault(rt: HostRuntime) -> Result<(), Fail> {
-        let none: &[u64] = &[];
-        for (failing, wanted, text) in [(none, Ok(()), "history 0\n"), (&[1], Err(Failed), "his")] {
-            let failing = failing.to_vec(rt.alloc())?;
-            let mut sink = MemorySink::new(rt.alloc(), 3, 100, failing)?;
-            assert_eq!(rt; write_all(&mut sink, b"history 0\n"), wanted);
-            assert_eq!(rt; sink.written(), text.as_bytes());
-        }
-        Ok(())
-    }
-}

@@ -6,11 +6,11 @@ ghost use Rattle.acl_program.specs.Causes.{cause_so_far, status, text_of_cause};
 ghost use Rattle.acl_program.specs.Endings.{ComesExactly, HasReport, IsCausedBy, IsDue, IsMade, IsReadFor, IsTold};
 ghost use Rattle.acl_program.specs.Rehearsal.{IsRehearsal, IsReport};
 ghost use Rattle.acl_program.specs.Scripts.{IsBadScript, IsTooMuch};
-ghost use Rattle.acl_program.specs.Streams.{IsPrefixWritten};
+ghost use Rattle.acl_program.specs.Streams.{IsPrefixWritten, most_bytes};
 ghost use Rattle.acl_program.specs.Words.{is_step as is_step_text};
 ghost use Rattle.acl_program.specs.declared.cause.Cause.TheVariants.{Fine, Usage, BadScript, ReadFault, WriteFault, Limit};
 ghost use Rattle.grant_refusal.specs.declared.ParseRefusal.{ParseRefusal};
-ghost use Rattle.line_reports.specs.Texts.{text_of_report};
+ghost use Rattle.line_answers.specs.ReportTexts.{text_of_report};
 ghost use Rattle.script_lines.specs.declared.refusal.Which.{Which};
 ghost use Rattle.script_run.specs.Forms.{is_built, keeps_rules};
 
@@ -19,7 +19,7 @@ use crate::input::read_all;
 use crate::output::write_all;
 use crate::words::is_step;
 use acl_ports::{Disk, Sink, Source};
-use line_reports::{Report, report_of, report_text};
+use line_answers::{Report, report_of, report_text};
 use script_read::{Script, read_script_of};
 use script_run::{BuiltForms, run_lines};
 use std::alloc::{AllocError, Global};
@@ -145,7 +145,7 @@ fn rehearse<S: Source>(alloc: Global, words: &[String], source: &mut S) -> Resul
 
 // Runs the lines of the script that the bytes are.
 fn rehearse_bytes(alloc: Global, bytes: &[u8]) -> Result<Report, Cause>
-    requires { length bytes.now ≤ 16777216 }
+    requires { length bytes.now ≤ most_bytes }
     ensures made { IsMade bytes.now (cause_so_far result) }
     ensures due { (words : List (List ℕ)) → IsDue words bytes.now (cause_so_far result) }
     ensures report { IfOk result (IsRehearsal bytes.now) }

@@ -1,5 +1,5 @@
 -- How many items a set has.
-use Rattle.std.proofs.Common.{◌≡◌, ◌∙◌, ap, sym, ℕ, suc, zero, ◌+◌, ◌<◌, ◌≤◌, Bool, true, false, cond, not, ◌&&◌, ◌||◌, List, [], ◌∷◌, length, refl, nat_lt, MatchBool, arith, IsTrue, ◌↔◌}
+use Rattle.std.proofs.Common.{◌≡◌, ◌∙◌, ap, sym, ℕ, suc, ◌<◌, ◌≤◌, Bool, true, false, cond, not, ◌||◌, List, [], ◌∷◌, length, refl, nat_lt, MatchBool, arith}
 use Rattle.std.proofs.lemmas.Bool.{and_parts, ltb-false, ltb-true, not-true, or_left, or_right}
 use Rattle.std.specs.List.{list_any}
 use Rattle.acl_model.specs.Counts.{HasMoreThan, ListsEachOnce, all_differ_by}
@@ -52,14 +52,14 @@ module _ {X : Type 0} (same : X → X → Bool) (equal : (a b : X) → same a b 
       let shorter : length xs ≤ length (without x ys) =
       not_longer xs (without x ys) parts.1
       (λ z any. any-without x z ys (apart x z xs gone any (same z x) refl) (all z (or_right (same z x) (list_any (same z) xs) any))) in
-      let counted : suc (length (without x ys)) ≡ length ys = length-without x ys here in
+      let shorter_by_one : suc (length (without x ys)) ≡ length ys = length-without x ys here in
       omega arith
 
   -- whether more than a limit are in a set that is listed
-  pub counted : (P : X → Type 0) (items : List X) → ListsEachOnce same P items → (limit : ℕ) (t : Bool) → nat_lt limit (length items) ≡ t
+  pub is_over_limit : (P : X → Type 0) (items : List X) → ListsEachOnce same P items → (limit : ℕ) (t : Bool) → nat_lt limit (length items) ≡ t
       → MatchBool t (HasMoreThan same P limit) (HasMoreThan same P limit → ⊥)
-  counted P items all limit true below = record { items = items; all = all; more = ltb-true limit (length items) below }
-  counted P items all limit false above = λ more.
+  is_over_limit P items all limit true below = record { items = items; all = all; more = ltb-true limit (length items) below }
+  is_over_limit P items all limit false above = λ more.
       let least : length more.items ≤ length items =
       not_longer more.items items more.all.once (λ z any. (all.just_these z).1 ((more.all.just_these z).0 any)) in
       let most : length items ≤ limit = ltb-false limit (length items) above in

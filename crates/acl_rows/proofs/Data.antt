@@ -1,21 +1,17 @@
 -- Other data of one account.
-use Rattle.std.proofs.Common.{◌≡◌, ◌∙◌, ap, sym, Bool, true, false, cond, not, ◌&&◌, ◌||◌, List, [], ◌∷◌, Option, Some, None, map, refl}
-use Rattle.std.proofs.lemmas.Bool.{and_from, and_parts, not_from_false, not-true, or_from, or_parts}
+use Rattle.std.proofs.Common.{◌≡◌, ◌∙◌, ap, sym, Bool, true, false, cond, List, [], ◌∷◌, Option, Some, refl}
 use Rattle.std.specs.List.{find, list_any}
-use Rattle.std.specs.Option.{is_some, option_map}
-use Rattle.acl_names.proofs.SameAuth.{equal_from_same_auth, same_auth_itself}
+use Rattle.std.specs.Option.{option_map}
+use Rattle.acl_names.proofs.SameAuth.{equal_from_same_auth}
 use Rattle.acl_names.specs.AuthId.{same_auth}
 use Rattle.acl_names.specs.declared.auth.AuthId.{AuthId}
-use Rattle.acl_model.specs.Renames.{before_pair}
-use Rattle.acl_model.specs.State.{State}
 use Rattle.acl_model.specs.declared.account_data.AccountData.{AccountData}
 use Rattle.acl_model.specs.declared.row.Row.{Row}
 use Rattle.acl_model.specs.declared.row.Row.TheVariants.{Account}
 use Rattle.acl_rows.specs.Changes.{with_data}
 use Rattle.acl_rows.specs.Renaming.{change_first}
 use Rattle.acl_rows.specs.Tables.{Tables, data_of, has_account, has_row, names_of, state_of}
-use Rattle.acl_rows.proofs.Differ.{among, among_is_has, differ}
-use Rattle.acl_rows.proofs.Lookups.{found_where_any}
+use Rattle.acl_rows.proofs.Differ.{among_is_has, differ}
 use Rattle.acl_rows.proofs.States.{differ_back, same_state}
 
 abbrev Listed : Type 0

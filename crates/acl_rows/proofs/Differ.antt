@@ -1,6 +1,6 @@
 -- Each account is listed once.
 use Rattle.std.specs.Result.{OnErr, OnOk}
-use Rattle.std.proofs.Common.{◌≡◌, ◌∙◌, ap, Result, Ok, Err, Bool, true, false, cond, not, ◌&&◌, ◌||◌, List, [], ◌∷◌, ◌++◌, filter, map, refl}
+use Rattle.std.proofs.Common.{◌≡◌, ap, Result, Ok, Err, Bool, true, false, cond, not, ◌||◌, List, [], ◌∷◌, ◌++◌, filter, refl}
 use Rattle.std.proofs.lemmas.Bool.{and_from, and_parts, or_from, or_parts, not-true, not_from_false}
 use Rattle.std.specs.List.{list_any}
 use Rattle.acl_names.specs.AuthId.{same_auth}

@@ -1,7 +1,7 @@
 -- The distinct items that rows use, and the limits on them.
-use Rattle.std.proofs.Common.{◌≡◌, ◌∙◌, ap, sym, subst, ℕ, Bool, true, false, cond, not, ◌&&◌, ◌||◌, List, [], ◌∷◌, ◌++◌, Option, Some, None, length, fold, refl, IsTrue, ◌↔◌, inl, inr, MatchBool, nat_eq, eq-eqb, nat_lt}
+use Rattle.std.proofs.Common.{◌≡◌, ◌∙◌, ap, sym, subst, ℕ, Bool, true, false, cond, not, ◌||◌, List, [], ◌∷◌, ◌++◌, Option, Some, None, length, fold, refl, IsTrue, ◌↔◌, inl, inr, MatchBool, nat_lt}
 use Rattle.std.proofs.Math.Bool.{or-false, or-true}
-use Rattle.std.proofs.lemmas.Bool.{and_from, and_parts, eqb-true, not_from_false, not-true, or_from, or_left, or_parts, or_right}
+use Rattle.std.proofs.lemmas.Bool.{and_from, and_parts, not_from_false, not-true, or_from, or_parts}
 use Rattle.std.proofs.lemmas.List.Folds.{list_any-append}
 use Rattle.std.specs.List.{list_any}
 use Rattle.acl_names.proofs.SameAuth.{equal_from_same_auth, equal_from_text_eq, same_auth_itself, text_eq_itself}
@@ -9,13 +9,13 @@ use Rattle.acl_names.specs.AuthId.{same_auth}
 use Rattle.acl_names.specs.Text.{text_eq}
 use Rattle.acl_names.specs.declared.auth.AuthId.{AuthId}
 use Rattle.acl_model.proofs.SameRows.{equal_from_same_row, same_row_from_equal, same_row_itself}
-use Rattle.acl_model.specs.Counts.{HasMoreThan, IsEdgeInUse, IsExceeded, IsObjectInUse, IsPairInUse, IsSchemaInUse, ListsEachOnce, all_differ_by, same_pair}
+use Rattle.acl_model.specs.Counts.{HasMoreThan, IsEdgeInUse, IsObjectInUse, IsPairInUse, IsSchemaInUse, ListsEachOnce, all_differ_by, same_pair}
 use Rattle.acl_model.specs.Rows.{same_row}
-use Rattle.acl_model.specs.State.{State}
 use Rattle.acl_model.specs.declared.row.Row.{Row}
-use Rattle.acl_model.specs.declared.row.Row.TheVariants.{Account, Global, Dynamic, DynamicGrant, Schema, Table, Column, Function, Procedure, Edge, Admin, Default, Restriction}
+use Rattle.acl_model.specs.declared.row.Row.TheVariants.{Schema, Table, Column, Function, Procedure, Edge, Default, Restriction}
 use Rattle.acl_rows.specs.Tables.{Tables, state_of}
-use Rattle.acl_rows.proofs.Counting.{counted}
+use Rattle.acl_rows.proofs.Counting.{is_over_limit}
+use Rattle.acl_rows.proofs.RowLists.{passing_row, some_row}
 use Rattle.acl_rows.specs.Uses.{distinct, edge_of, noted, object_of, pair_of, schema_of}
 
 abbrev is_key : {X : Type 0} → (X → X → Bool) → Option X → X → Bool
@@ -85,29 +85,6 @@ module _ {X : Type 0} (same : X → X → Bool) (equal : (a b : X) → same a b 
     once = fold_once rows [] refl;
     just_these = λ k. (λ any. (used k).0 (sym (fold_has rows [] k) ∙ any), λ holds. fold_has rows [] k ∙ (used k).1 holds);
   }
-
--- a row that passes
-some_row : (test : Row → Bool) (rows : List Row) → list_any test rows ≡ true → (row : Row) × (list_any (same_row row) rows ≡ true) × (test row ≡ true)
-some_row test [] any = cc
-some_row test (x ∷ rows) any = at (test x) refl (some_row test rows)
-  where
-    at : (t : Bool) → test x ≡ t → (list_any test rows ≡ true → (row : Row) × (list_any (same_row row) rows ≡ true) × (test row ≡ true))
-        → (row : Row) × ((same_row row x || list_any (same_row row) rows) ≡ true) × (test row ≡ true)
-    at true passes later = (x, or_left (same_row x x) (list_any (same_row x) rows) (same_row_itself x), passes)
-    at false fails later =
-        let rest : list_any test rows ≡ true = rw fails at any in
-        let found = later rest in
-        (found.0, or_right (same_row found.0 x) (list_any (same_row found.0) rows) found.1, found.2)
-
-passing_row : (test : Row → Bool) (rows : List Row) (r : Row) → list_any (same_row r) rows ≡ true → test r ≡ true → list_any test rows ≡ true
-passing_row test [] r there passes = cc
-passing_row test (x ∷ rows) r there passes = at (same_row r x) refl (λ later. passing_row test rows r later passes)
-  where
-    at : (t : Bool) → same_row r x ≡ t → (list_any (same_row r) rows ≡ true → list_any test rows ≡ true) → (test x || list_any test rows) ≡ true
-    at true is rest = or_left (test x) (list_any test rows) (ap test (sym (equal_from_same_row r x is)) ∙ passes)
-    at false is rest =
-        let later : list_any (same_row r) rows ≡ true = rw is at there in
-        or_right (test x) (list_any test rows) (rest later)
 
 -- ---- schemas
 
@@ -207,16 +184,16 @@ edges_once tables = distinct_lists same_row equal_from_same_row same_row_itself 
 
 pub over_schemas : (tables : Tables) (n : ℕ) → n ≡ length (distinct text_eq schema_of tables.grants)
     → MatchBool (nat_lt 4096 n) (HasMoreThan text_eq (IsSchemaInUse (state_of tables)) 4096) (HasMoreThan text_eq (IsSchemaInUse (state_of tables)) 4096 → ⊥)
-over_schemas tables n is = rw is (counted text_eq equal_from_text_eq text_eq_itself _ _ (schemas_once tables) 4096 (nat_lt 4096 (length (distinct text_eq schema_of tables.grants))) refl)
+over_schemas tables n is = rw is (is_over_limit text_eq equal_from_text_eq text_eq_itself _ _ (schemas_once tables) 4096 (nat_lt 4096 (length (distinct text_eq schema_of tables.grants))) refl)
 
 pub over_pairs : (tables : Tables) (n : ℕ) → n ≡ length (distinct same_pair pair_of tables.grants)
     → MatchBool (nat_lt 262144 n) (HasMoreThan same_pair (IsPairInUse (state_of tables)) 262144) (HasMoreThan same_pair (IsPairInUse (state_of tables)) 262144 → ⊥)
-over_pairs tables n is = rw is (counted same_pair equal_from_same_pair same_pair_itself _ _ (pairs_once tables) 262144 (nat_lt 262144 (length (distinct same_pair pair_of tables.grants))) refl)
+over_pairs tables n is = rw is (is_over_limit same_pair equal_from_same_pair same_pair_itself _ _ (pairs_once tables) 262144 (nat_lt 262144 (length (distinct same_pair pair_of tables.grants))) refl)
 
 pub over_objects : (tables : Tables) (n : ℕ) → n ≡ length (distinct same_row object_of tables.grants)
     → MatchBool (nat_lt 65536 n) (HasMoreThan same_row (IsObjectInUse (state_of tables)) 65536) (HasMoreThan same_row (IsObjectInUse (state_of tables)) 65536 → ⊥)
-over_objects tables n is = rw is (counted same_row equal_from_same_row same_row_itself _ _ (objects_once tables) 65536 (nat_lt 65536 (length (distinct same_row object_of tables.grants))) refl)
+over_objects tables n is = rw is (is_over_limit same_row equal_from_same_row same_row_itself _ _ (objects_once tables) 65536 (nat_lt 65536 (length (distinct same_row object_of tables.grants))) refl)
 
 pub over_edges : (tables : Tables) (n : ℕ) → n ≡ length (distinct same_row edge_of tables.grants)
     → MatchBool (nat_lt 65536 n) (HasMoreThan same_row (IsEdgeInUse (state_of tables)) 65536) (HasMoreThan same_row (IsEdgeInUse (state_of tables)) 65536 → ⊥)
-over_edges tables n is = rw is (counted same_row equal_from_same_row same_row_itself _ _ (edges_once tables) 65536 (nat_lt 65536 (length (distinct same_row edge_of tables.grants))) refl)
+over_edges tables n is = rw is (is_over_limit same_row equal_from_same_row same_row_itself _ _ (edges_once tables) 65536 (nat_lt 65536 (length (distinct same_row edge_of tables.grants))) refl)

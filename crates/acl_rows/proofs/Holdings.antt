@@ -1,40 +1,18 @@
 -- The rows that an account holds, and those that name it.
-use Rattle.std.proofs.Common.{◌≡◌, ◌∙◌, ap, sym, Bool, true, false, cond, not, ◌&&◌, ◌||◌, List, [], ◌∷◌, filter, refl}
+use Rattle.std.proofs.Common.{◌≡◌, ◌∙◌, ap, sym, Bool, true, false, ◌&&◌, ◌||◌, List, filter, refl}
 use Rattle.std.proofs.Math.Bool.{and-false, or-false}
 use Rattle.std.specs.List.{list_any}
-use Rattle.acl_names.proofs.SameAuth.{equal_from_same_auth, same_auth_itself}
+use Rattle.acl_names.proofs.SameAuth.{equal_from_same_auth}
 use Rattle.acl_names.specs.AuthId.{same_auth}
 use Rattle.acl_names.specs.declared.auth.AuthId.{AuthId}
-use Rattle.acl_model.proofs.SameRows.{equal_from_same_row}
 use Rattle.acl_model.specs.Rows.{holder, same_row, some_name}
 use Rattle.acl_model.specs.declared.row.Row.{Row}
 use Rattle.acl_model.specs.declared.row.Row.TheVariants.{Account}
 use Rattle.acl_rows.specs.Conditions.{is_account}
 use Rattle.acl_rows.specs.Holders.{holds_as_grant, names_as_grant}
-use Rattle.acl_rows.specs.Tables.{Tables, has_account, has_row, state_of}
-use Rattle.acl_rows.proofs.States.{account_is_no_grant, differ_back, has_row-grant}
-
-any-filter : (p : Row → Bool) (row : Row) (xs : List Row) → list_any (same_row row) (filter p xs) ≡ (list_any (same_row row) xs && p row)
-any-filter p row [] = refl
-any-filter p row (x ∷ xs) = at (p x) (same_row row x) refl refl (any-filter p row xs)
-  where
-    passing : (b c : Bool) → c ≡ true → true ≡ ((true || b) && c)
-    passing b c is = rw is refl
-
-    at : (t u : Bool) → p x ≡ t → same_row row x ≡ u → list_any (same_row row) (filter p xs) ≡ (list_any (same_row row) xs && p row)
-        → list_any (same_row row) (cond t (x ∷ filter p xs) (filter p xs)) ≡ ((u || list_any (same_row row) xs) && p row)
-    at true true passes same rest =
-        let here : p row ≡ true = ap p (equal_from_same_row row x same) ∙ passes in
-        rw (same, here) refl
-    at false true fails same rest =
-        let here : p row ≡ false = ap p (equal_from_same_row row x same) ∙ fails in
-        rest ∙ ap (λ t. list_any (same_row row) xs && t) here ∙ and-false (list_any (same_row row) xs) ∙ sym here
-    at true false passes differs rest = rw differs rest
-    at false false fails differs rest = rest
-
-own : (t : Bool) (a b : AuthId) (u : Bool) → same_auth a b ≡ u → (same_auth b a ≡ u)
-own t a b true is = ap (λ (x : AuthId). same_auth b x) (equal_from_same_auth a b is) ∙ same_auth_itself b
-own t a b false is = differ_back a b is
+use Rattle.acl_rows.specs.Tables.{Tables, has_account, state_of}
+use Rattle.acl_rows.proofs.RowLists.{any-filter}
+use Rattle.acl_rows.proofs.States.{same_auth_back}
 
 own_row : (accounts : List (AuthId × _)) (a b : AuthId) (u : Bool) → same_auth b a ≡ u → (has_account accounts a && u) ≡ (has_account accounts b && u)
 own_row accounts a b true is = ap (λ (x : AuthId). has_account accounts x && true) (sym (equal_from_same_auth b a is))
@@ -52,7 +30,7 @@ unfolding state_of
 naming tables a (Account b) =
     ap (λ t. t || (has_account tables.accounts a && same_auth b a)) (any-filter (names_as_grant a) (Account b) tables.grants ∙ and-false (list_any (same_row (Account b)) tables.grants))
     ∙ own_row tables.accounts a b (same_auth b a) refl
-    ∙ ap (λ t. has_account tables.accounts b && t) (sym (own true b a (same_auth b a) refl))
+    ∙ ap (λ t. has_account tables.accounts b && t) (sym (same_auth_back b a (same_auth b a) refl))
 naming tables a row =
     other_row (list_any (same_row row) (filter (names_as_grant a) tables.grants)) (has_account tables.accounts a) row a refl
     ∙ any-filter (names_as_grant a) row tables.grants

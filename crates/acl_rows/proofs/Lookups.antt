@@ -1,7 +1,7 @@
 -- Looking up what a list has.
-use Rattle.std.proofs.Common.{◌≡◌, ◌∙◌, ap, sym, Bool, true, false, ◌||◌, List, [], ◌∷◌, ◌++◌, Option, Some, None, refl, is_some, cond}
+use Rattle.std.proofs.Common.{◌≡◌, ◌∙◌, ap, Bool, true, false, ◌||◌, List, [], ◌∷◌, Option, Some, None, refl, is_some, cond}
 use Rattle.std.specs.Borrow.{Bor}
-use Rattle.std.specs.List.{filter, find, list_any}
+use Rattle.std.specs.List.{find, list_any}
 use Rattle.std.specs.Option.{option_copied, option_map}
 use Rattle.acl_names.specs.declared.auth.AuthId.{AuthId}
 use Rattle.acl_model.specs.declared.account_data.AccountData.{AccountData}

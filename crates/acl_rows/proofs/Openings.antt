@@ -1,16 +1,16 @@
 -- The first state, privilege by privilege.
-use Rattle.std.proofs.Common.{◌≡◌, ℕ, ◌+◌, Bool, true, false, cond, not, ◌||◌, ◌&&◌, [], Some, None, Option, nat_lt, nat_eq, refl, arith}
+use Rattle.std.proofs.Common.{◌≡◌, ℕ, ◌+◌, Bool, true, false, cond, ◌||◌, ◌&&◌, [], Some, None, nat_lt, nat_eq, refl, arith}
 use Rattle.std.proofs.Math.Bool.{or-false}
 use Rattle.std.proofs.lemmas.Bool.Decides.{nat_tests}
 use Rattle.acl_names.specs.AuthId.{same_auth}
 use Rattle.acl_model.specs.Accounts.{new_account}
-use Rattle.acl_model.specs.State.{State, opening, root}
+use Rattle.acl_model.specs.State.{opening, root}
 use Rattle.acl_model.specs.declared.account_data.AccountData.{AccountData}
 use Rattle.acl_model.specs.declared.row.Row.{Row}
 use Rattle.acl_model.specs.declared.row.Row.TheVariants.{Account, Global, Dynamic, DynamicGrant}
 use Rattle.acl_rows.specs.Changes.{with_row}
 use Rattle.acl_rows.specs.Opening.{opening_below, rows_below}
-use Rattle.acl_rows.specs.Tables.{Tables, has_row, state_of}
+use Rattle.acl_rows.specs.Tables.{Tables, state_of}
 use Rattle.acl_rows.proofs.States.{same_state}
 
 none_below : (b : Bool) (p : ℕ) → false ≡ (b && nat_lt p 0)

@@ -1,11 +1,10 @@
 -- What a row more, a row less and other data make of the tables.
-use Rattle.std.proofs.Common.{◌≡◌, ◌∙◌, ap, sym, Bool, true, false, cond, not, ◌&&◌, ◌||◌, List, [], ◌∷◌, ◌++◌, Option, Some, None, filter, refl, arith}
+use Rattle.std.proofs.Common.{◌≡◌, ◌∙◌, ap, sym, Bool, true, false, cond, not, ◌&&◌, ◌||◌, List, [], ◌∷◌, ◌++◌, Option, Some, None, filter, refl}
 use Rattle.std.proofs.Math.Bool.{and-true, or-false, or-true}
-use Rattle.std.proofs.lemmas.Bool.{false≢true}
 use Rattle.std.proofs.lemmas.List.Folds.{find-append, list_any-append}
 use Rattle.std.specs.List.{find, list_any}
 use Rattle.std.specs.Option.{is_some, option_map, option_or}
-use Rattle.acl_names.proofs.SameAuth.{equal_from_same_auth, same_auth_itself}
+use Rattle.acl_names.proofs.SameAuth.{equal_from_same_auth}
 use Rattle.acl_names.specs.AuthId.{same_auth}
 use Rattle.acl_names.specs.declared.auth.AuthId.{AuthId}
 use Rattle.acl_model.proofs.SameRows.{equal_from_same_row}
@@ -15,12 +14,11 @@ use Rattle.acl_model.specs.State.{State}
 use Rattle.acl_model.specs.declared.account_data.AccountData.{AccountData}
 use Rattle.acl_model.specs.declared.row.Row.{Row}
 use Rattle.acl_model.specs.declared.row.Row.TheVariants.{Account}
-use Rattle.acl_rows.specs.Changes.{data_with, data_without, with_data, with_row, without_row}
+use Rattle.acl_rows.specs.Changes.{data_with, data_without, with_row, without_row}
 use Rattle.acl_rows.specs.Conditions.{is_account}
-use Rattle.acl_rows.specs.Renaming.{change_first}
 use Rattle.acl_rows.specs.Tables.{Tables, data_of, has_account, has_row, state_of}
 use Rattle.acl_rows.proofs.Lookups.{found_where_any}
-use Rattle.acl_rows.proofs.States.{account_is_no_grant, differ_back, has_row-grant, same_state}
+use Rattle.acl_rows.proofs.States.{account_is_no_grant, same_state}
 
 -- ---- one more
 

@@ -1,15 +1,15 @@
 -- One account under another name: the data, and the rows.
 use Rattle.std.proofs.Common.{◌≡◌, ◌∙◌, ap, sym, subst, Bool, true, false, cond, not, ◌&&◌, ◌||◌, List, [], ◌∷◌, Option, Some, None, filter, map, refl}
-use Rattle.std.proofs.lemmas.Bool.{and_from, and_parts, not_from_false, not-true, or_from, or_parts, false_from_ne_true}
-use Rattle.std.specs.List.{find, list_any}
-use Rattle.std.specs.Option.{is_some, option_map}
+use Rattle.std.proofs.lemmas.Bool.{and_from, and_parts, not_from_false, not-true, or_from, or_parts}
+use Rattle.std.specs.List.{list_any}
+use Rattle.std.specs.Option.{is_some}
 use Rattle.acl_names.proofs.SameAuth.{equal_from_same_auth, same_auth_itself}
 use Rattle.acl_names.specs.AuthId.{same_auth}
 use Rattle.acl_names.specs.declared.auth.AuthId.{AuthId}
 use Rattle.acl_model.proofs.SameRows.{equal_from_same_row, same_row_from_equal, same_row_itself}
 use Rattle.acl_model.specs.Accounts.{data_of_old}
 use Rattle.acl_model.specs.Effects.{stood_before}
-use Rattle.acl_model.specs.Renames.{before_pair, name_before, one_name, row_before, two_names}
+use Rattle.acl_model.specs.Renames.{before_pair, one_name, row_before, two_names}
 use Rattle.acl_model.specs.Rows.{same_row, some_name}
 use Rattle.acl_model.specs.State.{State}
 use Rattle.acl_model.specs.declared.account_data.AccountData.{AccountData}
@@ -19,7 +19,7 @@ use Rattle.acl_stmt.specs.declared.statement.Statement.TheVariants.{RenameUser}
 use Rattle.acl_rows.specs.Changes.{renamed}
 use Rattle.acl_rows.specs.Conditions.{is_account}
 use Rattle.acl_rows.specs.Renaming.{change_first, new_name, row_renamed, rows_renamed}
-use Rattle.acl_rows.specs.Tables.{Tables, data_of, has_account, has_row, names_of, state_of}
+use Rattle.acl_rows.specs.Tables.{Tables, data_of, has_account, has_row, state_of}
 use Rattle.acl_rows.proofs.Data.{data_cons}
 use Rattle.acl_rows.proofs.Differ.{among, among_is_has, differ}
 use Rattle.acl_rows.proofs.Lookups.{found_where_any}

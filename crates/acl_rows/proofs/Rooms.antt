@@ -9,7 +9,7 @@ use Rattle.acl_model.specs.State.{stands}
 use Rattle.acl_model.specs.declared.account_data.AccountData.{AccountData}
 use Rattle.acl_rows.specs.Conditions.{HasRoom}
 use Rattle.acl_rows.specs.Tables.{Tables, names_of, state_of}
-use Rattle.acl_rows.proofs.Counting.{counted}
+use Rattle.acl_rows.proofs.Counting.{is_over_limit}
 use Rattle.acl_rows.proofs.Differ.{among_is_has, differ}
 
 names_counted : (accounts : List (AuthId × AccountData)) → length (names_of accounts) ≡ length accounts
@@ -28,10 +28,10 @@ room_by : (tables : Tables) → differ tables.accounts ≡ true → (n : ℕ) �
     → MatchBool t (HasRoom (state_of tables)) (HasMoreThan same_auth (λ a. IsTrue (stands (state_of tables) a)) 4095)
 room_by tables once n is true below =
     let small : nat_lt 4095 (length (names_of tables.accounts)) ≡ false = le-ltb 4095 (length (names_of tables.accounts)) (omega (arith, ltb-true n 4096 below)) in
-    counted same_auth equal_from_same_auth same_auth_itself _ (names_of tables.accounts) (accounts_once tables once) 4095 false small
+    is_over_limit same_auth equal_from_same_auth same_auth_itself _ (names_of tables.accounts) (accounts_once tables once) 4095 false small
 room_by tables once n is false above =
     let large : nat_lt 4095 (length (names_of tables.accounts)) ≡ true = lt-ltb 4095 (length (names_of tables.accounts)) (omega (arith, ltb-false n 4096 above)) in
-    counted same_auth equal_from_same_auth same_auth_itself _ (names_of tables.accounts) (accounts_once tables once) 4095 true large
+    is_over_limit same_auth equal_from_same_auth same_auth_itself _ (names_of tables.accounts) (accounts_once tables once) 4095 true large
 
 -- whether fewer than 4,096 accounts stand
 pub room : (tables : Tables) → differ tables.accounts ≡ true → (n : ℕ) → n ≡ length tables.accounts
@@ -42,4 +42,4 @@ room tables once n is = room_by tables once n (is ∙ sym (names_counted tables.
 pub over_accounts : (tables : Tables) → differ tables.accounts ≡ true → (n : ℕ) → n ≡ length tables.accounts
     → MatchBool (nat_lt 4096 n) (HasMoreThan same_auth (λ a. IsTrue (stands (state_of tables) a)) 4096) (HasMoreThan same_auth (λ a. IsTrue (stands (state_of tables) a)) 4096 → ⊥)
 over_accounts tables once n is = rw (is ∙ sym (names_counted tables.accounts))
-    (counted same_auth equal_from_same_auth same_auth_itself _ (names_of tables.accounts) (accounts_once tables once) 4096 (nat_lt 4096 (length (names_of tables.accounts))) refl)
+    (is_over_limit same_auth equal_from_same_auth same_auth_itself _ (names_of tables.accounts) (accounts_once tables once) 4096 (nat_lt 4096 (length (names_of tables.accounts))) refl)

@@ -8,7 +8,7 @@ use Rattle.std.specs.Ordering.{eq_by_cmp, is_eq, nat_cmp, ordering_then}
 use Rattle.std.specs.declared.cmp.Ordering.{Ordering}
 use Rattle.std.specs.declared.cmp.Ordering.TheVariants.{Less, Equal, Greater}
 use Rattle.acl_names.proofs.SameAuth.{equal_from_same_auth, equal_from_text_eq}
-use Rattle.acl_names.specs.AuthId.{auth_cmp, same_auth}
+use Rattle.acl_names.specs.AuthId.{auth_cmp}
 use Rattle.acl_names.specs.Text.{text_cmp, text_eq}
 use Rattle.acl_names.specs.declared.auth.AuthId.{AuthId}
 use Rattle.acl_model.proofs.SameRows.{equal_from_same_row, same_row_from_equal, same_row_itself}

@@ -1,5 +1,5 @@
 -- When two states are one.
-use Rattle.std.proofs.Common.{◌≡◌, Bool, true, false, List, refl, sym}
+use Rattle.std.proofs.Common.{◌≡◌, ◌∙◌, ap, Bool, true, false, List, refl}
 use Rattle.std.specs.List.{list_any}
 use Rattle.acl_names.specs.AuthId.{same_auth}
 use Rattle.acl_names.specs.declared.auth.AuthId.{AuthId}
@@ -43,6 +43,11 @@ both_ways_false a b differ true same =
 
 pub differ_back : (a b : AuthId) → same_auth a b ≡ false → same_auth b a ≡ false
 differ_back a b differ = both_ways_false a b differ (same_auth b a) refl
+
+-- whether two accounts are the same, asked the other way
+pub same_auth_back : (a b : AuthId) (t : Bool) → same_auth a b ≡ t → same_auth b a ≡ t
+same_auth_back a b true same = ap (λ (x : AuthId). same_auth b x) (equal_from_same_auth a b same) ∙ same_auth_itself b
+same_auth_back a b false differ = differ_back a b differ
 
 pub no_account : (row : Row) → ((a : AuthId) → row ≡ Account a → ⊥) → is_account row ≡ false
 no_account (Account a) other = absurd (other a refl)

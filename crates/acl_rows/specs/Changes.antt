@@ -1,5 +1,5 @@
 -- What each call makes of the state.
-use Rattle.std.specs.Prelude.{Bool, ◌&&◌, ◌||◌, not, List, [], ◌∷◌, Option, Some, None, if◌then◌else◌}
+use Rattle.std.specs.Prelude.{◌&&◌, ◌||◌, not, [], ◌∷◌, Option, Some, None, if◌then◌else◌}
 use Rattle.acl_names.specs.AuthId.{same_auth}
 use Rattle.acl_names.specs.declared.auth.AuthId.{AuthId}
 use Rattle.acl_model.specs.Accounts.{data_of_old, new_account}

@@ -1,6 +1,8 @@
 pub mod Changes
 pub mod Conditions
 pub mod Holders
+pub mod Layers
+pub mod Lists
 pub mod Opening
 pub mod Order
 pub mod Renaming

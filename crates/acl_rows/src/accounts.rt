@@ -3,6 +3,7 @@ ghost use Rattle.std.specs.Prelude.{◌≡◌, ◌∷◌, ◌++◌, [], not, fil
 ghost use Rattle.std.specs.Option.{option_copied};
 ghost use Rattle.acl_names.specs.AuthId.{same_auth};
 ghost use Rattle.acl_model.specs.Accounts.{new_account as new_data};
+ghost use Rattle.acl_model.specs.State.{empty_verifier as no_password};
 ghost use Rattle.acl_rows.specs.Renaming.{change_first};
 ghost use Rattle.acl_rows.specs.Tables.{data_of, has_account, names_of};
 
@@ -10,17 +11,22 @@ use acl_model::AccountData;
 use acl_names::{AuthId, LockTime, Policy, Verifier};
 use std::alloc::{AllocError, Global};
 
-/// The SHA-256 digest of no bytes.
-const EMPTY: [u8; 32] = [
-    0xe3, 0xb0, 0xc4, 0x42, 0x98, 0xfc, 0x1c, 0x14, 0x9a, 0xfb, 0xf4, 0xc8, 0x99, 0x6f, 0xb9, 0x24,
-    0x27, 0xae, 0x41, 0xe4, 0x64, 0x9b, 0x93, 0x4c, 0xa4, 0x95, 0x99, 0x1b, 0x78, 0x52, 0xb8, 0x55,
-];
+/// What is kept of the empty password: the SHA-256 digest of no bytes.
+pub fn empty_verifier() -> Verifier
+    ensures { result ≡ no_password }
+{
+    Verifier([
+        0xe3, 0xb0, 0xc4, 0x42, 0x98, 0xfc, 0x1c, 0x14, 0x9a, 0xfb, 0xf4, 0xc8, 0x99, 0x6f, 0xb9,
+        0x24, 0x27, 0xae, 0x41, 0xe4, 0x64, 0x9b, 0x93, 0x4c, 0xa4, 0x95, 0x99, 0x1b, 0x78, 0x52,
+        0xb8, 0x55,
+    ])
+}
 
 fn new_account() -> AccountData
     ensures { result ≡ new_data }
 {
     AccountData {
-        verifier: Verifier(EMPTY),
+        verifier: empty_verifier(),
         locked: false,
         policy: Policy {
             attempts: 0,

@@ -22,7 +22,8 @@ use Rattle.acl_stmt.specs.declared.target.Target.TheVariants as on
 use Rattle.grant_effects.proofs.Adding.{and_any, no_items, of_same_row, same_added}
 use Rattle.grant_effects.proofs.Below.{any_below, covered, none_below, same_tests}
 use Rattle.grant_effects.proofs.Bools.{last_first, one_within, one_within_two, two_within}
-use Rattle.grant_effects.proofs.Numbers.{dynamic_below, number_below}
+use Rattle.acl_rows.proofs.NamedPrivileges.{dynamic_below}
+use Rattle.grant_effects.proofs.Numbers.{number_below}
 use Rattle.grant_effects.specs.Given.{column_given, dynamic_given, limit_gives, restriction_given, row_at, static_given}
 use Rattle.grant_effects.specs.Granted.{grants_number}
 use Rattle.grant_effects.specs.Lists.{Adds}

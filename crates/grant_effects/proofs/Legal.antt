@@ -28,7 +28,8 @@ use Rattle.acl_stmt.specs.declared.refusal.Refusal.TheVariants.{NoSuchAccount}
 use Rattle.acl_stmt.specs.declared.statement.Statement.TheVariants.{Grant}
 use Rattle.acl_stmt.specs.declared.target.Target.{Target}
 use Rattle.acl_stmt.specs.declared.target.Target.TheVariants as on
-use Rattle.grant_effects.proofs.Numbers.{dynamic_below, held_below, static_below}
+use Rattle.acl_rows.proofs.Below.{below_at}
+use Rattle.acl_rows.proofs.NamedPrivileges.{dynamic_below, held_below, named_below}
 use Rattle.grant_effects.proofs.Splitting.{gives_split}
 use Rattle.grant_effects.specs.Given.{column_given, dynamic_given, given_of, limit_gives, restriction_given, static_given}
 use Rattle.grant_effects.specs.Granted.{grants_number}
@@ -77,15 +78,6 @@ module _ (limits : List Limit) (privileges : PrivList) (target : Target) (accoun
   given_names (Procedure a s f p) none given = holder_stands (Procedure a s f p) none given
   given_names (Restriction a p s) none given = holder_stands (Restriction a p s) none given
 
-below_at : (n p : ℕ) (test : ℕ → Bool) → all_below n test ≡ true → p < n → test p ≡ true
-below_at zero p test all within = absurd (omega arith)
-below_at (suc n) p test all within =
-    let parts = and_parts (all_below n test) (test n) all in
-    elim (cases_eq p n) [
-      | inl same ↦ ap test same ∙ parts.1
-      | inr other ↦ below_at n p test parts.0 (omega arith)
-    ]
-
 implied : (a b : Bool) → (not a || b) ≡ true → a ≡ true → b ≡ true
 implied true b either is = either
 implied false b either is = never is
@@ -107,7 +99,7 @@ number_level privileges target option p request granted =
       | inl named ↦
           elim (or_cases (privileges.all && has_level (level_of target) p && not (nat_eq p grant_option)) (holds privileges.plain p) named) [
             | inl all ↦ (and_parts privileges.all (has_level (level_of target) p) (and_parts (privileges.all && has_level (level_of target) p) (not (nat_eq p grant_option)) all).0).1
-            | inr held ↦ implied (holds privileges.plain p) (has_level (level_of target) p) (below_at 31 p (λ n. not (holds privileges.plain n) || has_level (level_of target) n) named_at (static_below privileges (level_of target) p named)) held
+            | inr held ↦ implied (holds privileges.plain p) (has_level (level_of target) p) (below_at 31 p (λ n. not (holds privileges.plain n) || has_level (level_of target) n) named_at (named_below privileges (level_of target) p named)) held
           ]
       | inr is_option ↦
           ap (has_level (level_of target)) (eqb-true p grant_option (and_parts option (nat_eq p grant_option) (and_parts (option && nat_eq p grant_option) (gives_grant_option privileges target) is_option).0).1)
@@ -165,7 +157,7 @@ module _ (state : State) (privileges : PrivList) (option : Bool) where
       let rest = holds limit.privileges p && named && not (state.rows (Global a p)) && not (state.rows (Schema a s p)) in
       let held = (and_parts (holds limit.privileges p) named (and_parts (holds limit.privileges p && named) (not (state.rows (Global a p)))
       (and_parts (holds limit.privileges p && named && not (state.rows (Global a p))) (not (state.rows (Schema a s p))) (and_parts (text_eq s limit.schema) rest given).1).0).0).0 in
-      let known = ltb-true (bits_of limit.privileges) (2 ^ 31) (and_parts (is_known limit.privileges) _ (and_parts _ _ limit.restricts).0).0 in
+      let known = (and_parts (is_known limit.privileges) _ (and_parts _ _ limit.restricts).0).0 in
       limit_level limit p (held_below limit.privileges p known held) held
   one_level target limit row given = never given
 

@@ -1,5 +1,4 @@
 pub mod Given
 pub mod Granted
-pub mod Legal
 pub mod Lists
 pub mod Taken

@@ -1,26 +1,15 @@
 //! What a GRANT of privileges names.
 ghost use Rattle.std.specs.Prelude.{◌≡◌, ◌&&◌, ◌<◌, ◌==◌, IsTrue};
-ghost use Rattle.acl_model.specs.Words.{gives_grant_option, is_dynamic_alone, limited, names_dynamic, names_static};
+ghost use Rattle.acl_model.specs.Words.{gives_grant_option, is_dynamic_alone, limited};
 ghost use Rattle.acl_stmt.specs.Targets.{level_of};
 ghost use Rattle.priv_sets.specs.Levels.{grant_option};
 ghost use Rattle.grant_effects.specs.Granted.{grants_number};
 
 use crate::parts::GrantParts;
 use acl_names::Ident;
+use acl_rows::names_static;
 use acl_stmt::{Limit, PrivList, Target};
-use priv_sets::{Level, Plain};
-
-// The number of GRANT OPTION.
-const GRANT_OPTION: u8 = 30;
-
-fn names_static(privileges: &PrivList, level: Level, number: u8) -> bool
-    requires { number < 31 }
-    ensures { result ≡ names_static privileges.now level number }
-{
-    let privilege = Plain::new(number);
-    let is_meant = privileges.all && privilege.has_level(level) && number != GRANT_OPTION;
-    is_meant || privileges.plain.has(privilege)
-}
+use priv_sets::Plain;
 
 fn is_dynamic_alone(privileges: &PrivList) -> bool
     ensures { result ≡ is_dynamic_alone privileges.now }
@@ -42,7 +31,7 @@ fn gives_option(grant: &GrantParts, number: u8) -> bool
         && gives_grant_option grant.now.privileges.now grant.now.target.now) }
 {
     grant.with_grant_option
-        && number == GRANT_OPTION
+        && number == Plain::grant_option().number()
         && gives_grant_option(grant.privileges, grant.target)
 }
 
@@ -53,18 +42,7 @@ pub(crate) fn grants_number(grant: &GrantParts, number: u8) -> bool
         grant.now.with_grant_option number }
     ensures below { IsTrue result → number < 31 }
 {
-    if number > GRANT_OPTION {
-        return false;
-    }
     names_static(grant.privileges, grant.target.level(), number) || gives_option(grant, number)
-}
-
-/// Whether the list has the dynamic privilege of a number, on `*.*`.
-pub(crate) fn names_dynamic(privileges: &PrivList, number: u8) -> bool
-    requires { number < 20 }
-    ensures { result ≡ names_dynamic privileges.now number }
-{
-    privileges.all || privileges.dynamic >> number & 1 == 1
 }
 
 /// Whether a limit restricts the privilege of a number on a schema.

@@ -3,6 +3,7 @@ ghost use Rattle.std.specs.Prelude.{◌≡◌, ℕ, Bool, List, None, IsTrue};
 ghost use Rattle.acl_names.specs.declared.auth.AuthId.{AuthId};
 ghost use Rattle.acl_model.specs.Effects.{gives};
 ghost use Rattle.acl_model.specs.Refusals.{first_fault};
+ghost use Rattle.acl_model.specs.Rows.{is_privilege_row};
 ghost use Rattle.acl_model.specs.State.{State};
 ghost use Rattle.acl_model.specs.declared.row.Row.TheVariants.{Dynamic, DynamicGrant};
 ghost use Rattle.acl_model.specs.declared.row.Row.{Row};
@@ -12,7 +13,6 @@ ghost use Rattle.acl_stmt.specs.declared.limit.Limit.{Limit};
 ghost use Rattle.acl_stmt.specs.declared.privileges.PrivList.{PrivList};
 ghost use Rattle.acl_stmt.specs.declared.statement.Statement.TheVariants.{Grant};
 ghost use Rattle.acl_stmt.specs.declared.target.Target.{Target};
-ghost use Rattle.grant_effects.specs.Legal.{is_privilege_row};
 
 /// The law that the rows which a legal grant gives may stand: their accounts do, each privilege has the level of its row, there
 /// is no row but of privileges and restrictions, and the grant option of a dynamic privilege comes with it. It does nothing when

@@ -8,11 +8,11 @@ ghost use Rattle.acl_rows.specs.Tables.{state_of};
 ghost use Rattle.grant_effects.specs.Given.{dynamic_given, row_at, static_given};
 ghost use Rattle.grant_effects.specs.Lists.{Adds};
 
-use crate::granted::{grants_number, names_dynamic};
+use crate::granted::grants_number;
 use crate::held::is_held;
 use crate::parts::GrantParts;
 use acl_names::AuthId;
-use acl_rows::{Row, Rows};
+use acl_rows::{Row, Rows, names_dynamic};
 use acl_stmt::Target;
 use std::alloc::{AllocError, Global};
 

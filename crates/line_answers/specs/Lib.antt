@@ -1,1 +1,3 @@
+pub mod ReportTexts
+pub mod Reports
 pub mod Texts

@@ -1,7 +1,7 @@
 -- The text of each answer.
 use Rattle.std.specs.Prelude.{ℕ, List, [], ◌++◌, Option, Some, None, codes, decimal}
 use Rattle.acl_names.specs.AuthId.{auth_text}
-use Rattle.acl_names.specs.Quoted.{quoted}
+use Rattle.acl_names.specs.Quoted.{pair_text, quoted}
 use Rattle.acl_stmt.specs.declared.refusal.Full.{Full as FullOf}
 use Rattle.acl_stmt.specs.declared.refusal.Full.TheVariants as full
 use Rattle.acl_stmt.specs.declared.refusal.Refusal.{Refusal}
@@ -18,10 +18,6 @@ use Rattle.line_answers.specs.declared.answer.LineRefusal.{LineRefusal}
 use Rattle.line_answers.specs.declared.answer.LineRefusal.TheVariants.{NotConnected, Denied, Statement, Login, NoMemory}
 use Rattle.line_answers.specs.declared.answer.LoginRefusal.{LoginRefusal}
 use Rattle.line_answers.specs.declared.answer.LoginRefusal.TheVariants.{NoAccount}
-
--- a name within a schema
-abbrev pub pair_text : List ℕ → List ℕ → List ℕ
-pair_text schema name = quoted schema ++ (codes "." ++ quoted name)
 
 -- what a privilege is missing on
 abbrev pub object_text : Target → List ℕ

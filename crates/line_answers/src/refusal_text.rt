@@ -2,7 +2,7 @@
 ghost use Rattle.std.specs.Prelude.{◌≡◌, Some};
 ghost use Rattle.line_answers.specs.Texts.{full_text, object_text, refusal_text};
 
-use crate::quoted::Quoted;
+use acl_names::Quoted;
 use acl_stmt::{Full, Refusal, Target};
 use std::fmt;
 

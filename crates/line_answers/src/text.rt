@@ -3,9 +3,8 @@ ghost use Rattle.std.specs.Prelude.{◌≡◌, Some};
 ghost use Rattle.line_answers.specs.Texts.{answer_text, column_text, denial_text, login_text, reason_text, why_text};
 
 use crate::answer::{Answer, Denial, LineRefusal, LoginRefusal};
-use crate::quoted::Quoted;
 use crate::refusal_text::{Object, Reason};
-use acl_names::Ident;
+use acl_names::{Ident, Quoted};
 use acl_stmt::Why;
 use std::fmt;
 

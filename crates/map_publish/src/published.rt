@@ -17,7 +17,7 @@ pub struct Published {
     entries: Vec<Entry>,
     ended: bool,
     map: PrivMap,
-    ghost counted: { vec_len entries < 2 ^ 32 },
+    ghost within: { vec_len entries < 2 ^ 32 },
     ghost stands: { state_in map ≡ state_after entries.items opening_state } by { Prim.hlevel props },
 }
 
@@ -90,7 +90,7 @@ impl Published {
         }
     }
 
-    /// Publishes the statement, which was prepared last on these. It takes no memory.
+    /// Publishes the statement, which needs to be the one that was prepared last on these. It takes no memory.
     pub fn commit(&mut self, next: Next)
         requires room { length (entries_of self.old) + 1 < 2 ^ 32 }
         requires next { IsNext next self.old }

@@ -11,6 +11,7 @@ use Rattle.acl_model.specs.Rights.{holds_globally, holds_on_schema}
 use Rattle.acl_model.specs.State.{State}
 use Rattle.acl_model.specs.Verdict.{Need, Reading, Readings, columns_from, dynamic_needs, is_met, is_on_target, is_restricted_at_login, met_below, met_by_object, met_by_schema, missing_of, needs_below, needs_of, schema_of, schema_reading, static_needs, verdict_of}
 use Rattle.acl_model.specs.Words.{names_dynamic, names_static}
+use Rattle.acl_rows.proofs.Below.{below_at}
 use Rattle.acl_stmt.specs.Columns.{is_column_list}
 use Rattle.acl_stmt.specs.Requests.{all_below, have_levels, is_request}
 use Rattle.acl_stmt.specs.Targets.{level_of}
@@ -69,15 +70,6 @@ level_fits (on.Table schema table) p h = table_up p h
 level_fits (on.Function schema f) p h = routine_up p h
 level_fits (on.Procedure schema f) p h = routine_up p h
 
-all_below_at : (limit q : ℕ) (test : ℕ → Bool) → all_below limit test ≡ true → q < limit → test q ≡ true
-all_below_at zero q test all below = absurd (omega arith)
-all_below_at (suc limit) q test all below =
-    let parts = and_parts (all_below limit test) (test limit) all in
-    elim (cases_eq q limit) [
-      | inl same ↦ ap test same ∙ parts.1
-      | inr other ↦ all_below_at limit q test parts.0 (omega arith)
-    ]
-
 from_either : (a b : Bool) → (not a || b) ≡ true → a ≡ true → b ≡ true
 from_either true b either is = either
 from_either false b either is = cc
@@ -102,7 +94,7 @@ module _ (target : Target) where
   names_level privileges p below levels names =
       elim (or_cases ((privileges.all && has_level (level_of target) p) && not (p == grant_option)) (holds privileges.plain p) names) [
         | inl all ↦ (and_parts privileges.all (has_level (level_of target) p) (and_parts (privileges.all && has_level (level_of target) p) (not (p == grant_option)) all).0).1
-        | inr plain ↦ from_either (holds privileges.plain p) (has_level (level_of target) p) (all_below_at 31 p (λ number. not (holds privileges.plain number) || has_level (level_of target) number) levels below) plain
+        | inr plain ↦ from_either (holds privileges.plain p) (has_level (level_of target) p) (below_at 31 p (λ number. not (holds privileges.plain number) || has_level (level_of target) number) levels below) plain
       ]
 
   columns_fit : (p k : ℕ) (names : List (List ℕ)) → fits target (Plain p) ≡ true → list_all fit (columns_from p k names) ≡ true

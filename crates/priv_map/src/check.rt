@@ -15,7 +15,7 @@ ghost use Rattle.priv_sets.specs.declared.privilege.Privilege.TheVariants.{Dynam
 
 use crate::{Acting, SchemaHeld};
 use acl_names::Ident;
-use acl_rows::Rows;
+use acl_rows::{Rows, names_dynamic, names_static};
 use acl_stmt::{ColumnPriv, Limit, Missing, PrivList, Request, Target, Why};
 use priv_sets::{Dynamic, Plain, Privilege};
 
@@ -76,9 +76,7 @@ fn asks_dynamic(request: &Request, privilege: Dynamic) -> bool
     ensures { result ≡ asks_dynamic request.now.privileges request.now.target privilege }
 {
     match &request.target {
-        Target::Global => {
-            request.privileges.all || request.privileges.dynamic >> privilege.number() & 1 == 1
-        }
+        Target::Global => names_dynamic(&request.privileges, privilege.number()),
         _ => false,
     }
 }
@@ -86,11 +84,7 @@ fn asks_dynamic(request: &Request, privilege: Dynamic) -> bool
 fn asks_static(request: &Request, privilege: Plain) -> bool
     ensures { result ≡ names_static request.now.privileges (level_of request.now.target) privilege }
 {
-    let level = request.target.level();
-    if request.privileges.all && privilege.has_level(level) && privilege.number() != 30 {
-        return true;
-    }
-    request.privileges.plain.has(privilege)
+    names_static(&request.privileges, request.target.level(), privilege.number())
 }
 
 fn missing_of(rows: &Rows, acting: &Acting, request: &Request, privilege: Plain) -> Option<Missing>

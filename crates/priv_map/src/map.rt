@@ -32,7 +32,7 @@ pub struct MapChange {
 
 impl PrivMap {
     ghost use Rattle.priv_map.specs.Denials.{denial_of};
-    ghost use Rattle.priv_map.specs.MapState.{map_after, state_in};
+    ghost use Rattle.priv_map.specs.MapState.{IsChangeOf, map_after, state_in};
     ghost use Rattle.priv_map.specs.Readings.{IsMaskOf, IsReadAt, reading_of, readings_of};
 
     /// The map over these rows.
@@ -63,14 +63,16 @@ impl PrivMap {
         ensures accepted { OnOk result (IsAccepted (state_in self.old) entry.now) }
         ensures change { IfOk result (λ change.
             state_in (map_after change self.old) ≡ after entry.now (state_in self.old)) }
+        ensures prepared { IfOk result (λ change. IsChangeOf change self.new) }
         ensures err { IfErr result (IsCause (IsRefused (state_in self.old) entry.now)) }
     {
         let change = acl_apply::prepare(alloc, &mut self.rows, entry)?;
         Ok(MapChange { change })
     }
 
-    /// Carries out the change, which was prepared last on this map. It takes no memory.
+    /// Carries out the change, which needs to be the one that was prepared last on this map. It takes no memory.
     pub fn commit(&mut self, change: MapChange)
+        requires prepared { IsChangeOf change self.old }
         ensures { self.new ≡ map_after change self.old }
     {
         let MapChange { change } = change;

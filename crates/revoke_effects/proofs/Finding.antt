@@ -18,8 +18,10 @@ use Rattle.acl_stmt.specs.declared.privileges.PrivList.{PrivList}
 use Rattle.acl_stmt.specs.declared.target.Target.{Target}
 use Rattle.acl_stmt.specs.declared.target.Target.TheVariants as on
 use Rattle.priv_sets.specs.declared.level.Level.TheVariants as level
-use Rattle.revoke_effects.proofs.Listing.{AreRowsOf, below_at, failing_below, found_row, passing_row, row_of}
-use Rattle.revoke_effects.proofs.Named.{named_below}
+use Rattle.acl_rows.proofs.RowLists.{passing_row}
+use Rattle.revoke_effects.proofs.Listing.{AreRowsOf, found_row, row_of}
+use Rattle.acl_rows.proofs.Below.{below_at, failing_below}
+use Rattle.acl_rows.proofs.NamedPrivileges.{named_below}
 use Rattle.revoke_effects.specs.Found.{FindsNothing, found_on_function, found_on_procedure, found_on_schema, found_on_table, is_everything, is_found}
 
 not_not : (b : Bool) → not b ≡ false → b ≡ true
@@ -31,7 +33,7 @@ some_held test p below passes = at (all_below 31 (λ q. not (test q))) refl
   where
     at : (t : Bool) → all_below 31 (λ q. not (test q)) ≡ t → not t ≡ true
     at true every =
-        let fails : not (test p) ≡ true = below_at 31 (λ q. not (test q)) p every below in
+        let fails : not (test p) ≡ true = below_at 31 p (λ q. not (test q)) every below in
         let never : not true ≡ true = rw passes at fails in
         cc
     at false some = refl

@@ -9,7 +9,7 @@ use Rattle.acl_names.specs.Text.{text_eq}
 use Rattle.acl_names.specs.declared.auth.AuthId.{AuthId}
 use Rattle.acl_model.specs.Effects.{gives, takes}
 use Rattle.acl_model.specs.Refusals.{first_fault, may_revoke, no_account}
-use Rattle.acl_model.specs.Rows.{holder, lists}
+use Rattle.acl_model.specs.Rows.{holder, is_privilege_row, lists}
 use Rattle.acl_model.specs.State.{State, stands}
 use Rattle.acl_model.specs.Words.{names_dynamic, names_static}
 use Rattle.acl_model.specs.declared.row.Row.{Row}
@@ -31,11 +31,11 @@ use Rattle.priv_sets.specs.Privileges.{is_global_level}
 use Rattle.priv_sets.specs.StaticSet.{holds}
 use Rattle.priv_sets.specs.declared.level.Level.TheVariants as level
 use Rattle.revoke_effects.proofs.Giving.{gives_elsewhere, is_schema}
-use Rattle.revoke_effects.proofs.Listing.{below_at}
-use Rattle.revoke_effects.proofs.Named.{named_below}
+use Rattle.acl_rows.proofs.Below.{below_at}
+use Rattle.acl_rows.proofs.NamedPrivileges.{named_below}
 use Rattle.revoke_effects.proofs.Taking.{takes_all, takes_at}
 use Rattle.revoke_effects.specs.Given.{is_restriction}
-use Rattle.revoke_effects.specs.Taken.{is_privilege_row, taken_at}
+use Rattle.revoke_effects.specs.Taken.{taken_at}
 
 -- the first of two is none where both together are
 pub first_none : (one other : Option Refusal) → option_or one other ≡ None → one ≡ None
@@ -82,7 +82,7 @@ named_fits privileges target accounts p legal named =
     elim (or_cases (privileges.all && has_level (level_of target) p && not (p == grant_option)) (holds privileges.plain p) named) [
       | inl of_all ↦ (and_parts privileges.all (has_level (level_of target) p) (and_parts (privileges.all && has_level (level_of target) p) (not (p == grant_option)) of_all).0).1
       | inr held ↦ implied (holds privileges.plain p) (has_level (level_of target) p) held
-          (below_at 31 (λ number. not (holds privileges.plain number) || has_level (level_of target) number) p (plain_fits privileges target accounts legal)
+          (below_at 31 p (λ number. not (holds privileges.plain number) || has_level (level_of target) number) (plain_fits privileges target accounts legal)
           (named_below privileges (level_of target) p named))
     ]
   where

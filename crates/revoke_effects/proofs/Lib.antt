@@ -3,5 +3,4 @@ pub mod Firsts
 pub mod Giving
 pub mod Lawful
 pub mod Listing
-pub mod Named
 pub mod Taking

@@ -12,45 +12,8 @@ use Rattle.acl_model.proofs.SameRows.{equal_from_same_row, same_row_itself}
 use Rattle.acl_model.specs.Firsts.{HasNone}
 use Rattle.acl_model.specs.Rows.{holder, lists, same_row}
 use Rattle.acl_model.specs.declared.row.Row.{Row}
+use Rattle.acl_rows.proofs.RowLists.{some_row}
 use Rattle.acl_stmt.specs.Requests.{all_below}
-
-pub any-filter : (p : Row → Bool) (row : Row) (xs : List Row) → list_any (same_row row) (filter p xs) ≡ (list_any (same_row row) xs && p row)
-any-filter p row [] = refl
-any-filter p row (x ∷ xs) = at (p x) (same_row row x) refl refl (any-filter p row xs)
-  where
-    at : (t u : Bool) → p x ≡ t → same_row row x ≡ u → list_any (same_row row) (filter p xs) ≡ (list_any (same_row row) xs && p row)
-        → list_any (same_row row) (cond t (x ∷ filter p xs) (filter p xs)) ≡ ((u || list_any (same_row row) xs) && p row)
-    at true true passes same rest =
-        let here : p row ≡ true = ap p (equal_from_same_row row x same) ∙ passes in
-        rw (same, here) refl
-    at false true fails same rest =
-        let here : p row ≡ false = ap p (equal_from_same_row row x same) ∙ fails in
-        rest ∙ ap (λ t. list_any (same_row row) xs && t) here ∙ and-false (list_any (same_row row) xs) ∙ sym here
-    at true false passes differs rest = rw differs rest
-    at false false fails differs rest = rest
-
--- a row that passes
-pub some_row : (test : Row → Bool) (rows : List Row) → list_any test rows ≡ true → (row : Row) × (list_any (same_row row) rows ≡ true) × (test row ≡ true)
-some_row test [] any = cc
-some_row test (x ∷ rows) any = at (test x) refl (some_row test rows)
-  where
-    at : (t : Bool) → test x ≡ t → (list_any test rows ≡ true → (row : Row) × (list_any (same_row row) rows ≡ true) × (test row ≡ true))
-        → (row : Row) × ((same_row row x || list_any (same_row row) rows) ≡ true) × (test row ≡ true)
-    at true passes later = (x, or_left (same_row x x) (list_any (same_row x) rows) (same_row_itself x), passes)
-    at false fails later =
-        let rest : list_any test rows ≡ true = rw fails at any in
-        let found = later rest in
-        (found.0, or_right (same_row found.0 x) (list_any (same_row found.0) rows) found.1, found.2)
-
-pub passing_row : (test : Row → Bool) (rows : List Row) (r : Row) → list_any (same_row r) rows ≡ true → test r ≡ true → list_any test rows ≡ true
-passing_row test [] r there passes = cc
-passing_row test (x ∷ rows) r there passes = at (same_row r x) refl (λ later. passing_row test rows r later passes)
-  where
-    at : (t : Bool) → same_row r x ≡ t → (list_any (same_row r) rows ≡ true → list_any test rows ≡ true) → (test x || list_any test rows) ≡ true
-    at true is rest = or_left (test x) (list_any test rows) (ap test (sym (equal_from_same_row r x is)) ∙ passes)
-    at false is rest =
-        let later : list_any (same_row r) rows ≡ true = rw is at there in
-        or_right (test x) (list_any test rows) (rest later)
 
 -- one account more
 pub lists_more : (accounts : List AuthId) (i : ℕ) (account a : AuthId) → i < length accounts → account ≡ get_or accounts i account
@@ -77,32 +40,6 @@ found_row stands account held are test any =
     let found = some_row test held any in
     let parts = and_parts (stands found.0) (same_auth (holder found.0) account) (sym (are found.0) ∙ found.1) in
     (found.0, found.2, parts.0, equal_from_same_auth (holder found.0) account parts.1)
-
-pub below_at : (limit : ℕ) (test : ℕ → Bool) (n : ℕ) → all_below limit test ≡ true → n < limit → test n ≡ true
-below_at zero test n every below = absurd (omega arith)
-below_at (suc limit) test n every below =
-    let parts = and_parts (all_below limit test) (test limit) every in
-    at (nat_lt n limit) refl (λ lower. below_at limit test n parts.0 lower) parts.1
-  where
-    at : (t : Bool) → nat_lt n limit ≡ t → (n < limit → test n ≡ true) → test limit ≡ true → test n ≡ true
-    at true below_limit before last = before (ltb-true n limit below_limit)
-    at false above before last =
-        let same : n ≡ limit = omega (arith, ltb-false n limit above) in
-        rw same last
-
--- a number below the limit that fails
-pub failing_below : (limit : ℕ) (test : ℕ → Bool) → all_below limit test ≡ false → (n : ℕ) × (n < limit) × (test n ≡ false)
-failing_below zero test fails = cc
-failing_below (suc limit) test fails = at (all_below limit test) refl (failing_below limit test)
-  where
-    at : (t : Bool) → all_below limit test ≡ t → (all_below limit test ≡ false → (n : ℕ) × (n < limit) × (test n ≡ false)) → (n : ℕ) × (n < suc limit) × (test n ≡ false)
-    at true before later =
-        let last : test limit ≡ false = rw before at fails in
-        (limit, omega arith, last)
-    at false before later =
-        let found = later before in
-        let below : found.0 < limit = found.1 in
-        (found.0, omega arith, found.2)
 
 pub none_of_none : {X : Type 0} (P : X → Type 0) → HasNone P []
 none_of_none P [] item later split has = cc

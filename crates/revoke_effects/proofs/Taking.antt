@@ -7,7 +7,7 @@ use Rattle.acl_names.specs.AuthId.{same_auth}
 use Rattle.acl_names.specs.Text.{text_eq}
 use Rattle.acl_names.specs.declared.auth.AuthId.{AuthId}
 use Rattle.acl_model.specs.Effects.{takes}
-use Rattle.acl_model.specs.Rows.{holder, lists, same_row}
+use Rattle.acl_model.specs.Rows.{holder, is_privilege_row, lists, same_row}
 use Rattle.acl_model.specs.Words.{names_column, names_dynamic, names_static}
 use Rattle.acl_model.specs.declared.row.Row.{Row}
 use Rattle.acl_model.specs.declared.row.Row.TheVariants.{Account, Global, Dynamic, DynamicGrant, Schema, Table, Column, Function, Procedure, Edge, Admin, Default, Restriction}
@@ -17,8 +17,9 @@ use Rattle.acl_stmt.specs.declared.target.Target.{Target}
 use Rattle.acl_stmt.specs.declared.target.Target.TheVariants as on
 use Rattle.priv_sets.specs.Levels.{grant_option}
 use Rattle.priv_sets.specs.declared.level.Level.TheVariants as level
-use Rattle.revoke_effects.proofs.Listing.{AreRowsOf, any-filter, lists_more}
-use Rattle.revoke_effects.specs.Taken.{is_privilege_row, taken_at}
+use Rattle.acl_rows.proofs.RowLists.{any-filter}
+use Rattle.revoke_effects.proofs.Listing.{AreRowsOf, lists_more}
+use Rattle.revoke_effects.specs.Taken.{taken_at}
 
 moved : (t l n : Bool) → (((t && l) && n) || false) ≡ (l && (t && n))
 moved true true true = refl

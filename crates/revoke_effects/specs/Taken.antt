@@ -1,9 +1,9 @@
 -- Which rows of its holder REVOKE of privileges takes, target by target.
-use Rattle.std.specs.Prelude.{ℕ, Bool, true, false, ◌&&◌, ◌||◌, List}
+use Rattle.std.specs.Prelude.{ℕ, Bool, false, ◌&&◌, ◌||◌, List}
 use Rattle.acl_names.specs.Text.{text_eq}
 use Rattle.acl_model.specs.Words.{names_column, names_dynamic, names_static}
 use Rattle.acl_model.specs.declared.row.Row.{Row}
-use Rattle.acl_model.specs.declared.row.Row.TheVariants.{Account, Global, Dynamic, DynamicGrant, Schema, Table, Column, Function, Procedure, Edge, Admin, Default, Restriction}
+use Rattle.acl_model.specs.declared.row.Row.TheVariants.{Global, Dynamic, DynamicGrant, Schema, Table, Column, Function, Procedure, Restriction}
 use Rattle.acl_stmt.specs.declared.privileges.PrivList.{PrivList}
 use Rattle.acl_stmt.specs.declared.target.Target.{Target}
 use Rattle.acl_stmt.specs.declared.target.Target.TheVariants as on
@@ -43,11 +43,3 @@ taken_at privileges (on.Schema schema) row = taken_on_schema privileges schema r
 taken_at privileges (on.Table schema table) row = taken_on_table privileges schema table row
 taken_at privileges (on.Function schema name) row = taken_on_function privileges schema name row
 taken_at privileges (on.Procedure schema name) row = taken_on_procedure privileges schema name row
-
--- whether a row is a privilege or a restriction, which REVOKE ALL PRIVILEGES, GRANT OPTION takes; the account and its roles stay
-abbrev pub is_privilege_row : Row → Bool
-is_privilege_row (Account a) = false
-is_privilege_row (Edge role to) = false
-is_privilege_row (Admin role to) = false
-is_privilege_row (Default of role) = false
-is_privilege_row _ = true

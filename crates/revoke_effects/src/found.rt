@@ -8,9 +8,8 @@ ghost use Rattle.acl_model.specs.Refusals.{no_account};
 ghost use Rattle.acl_rows.specs.Tables.{state_of};
 ghost use Rattle.revoke_effects.specs.Found.{FindsNothing, IsGrantFault, found_on_function, found_on_procedure, found_on_schema, found_on_table, is_everything, is_found};
 
-use crate::names::names_static;
 use acl_names::{AuthId, Ident};
-use acl_rows::{Row, Rows};
+use acl_rows::{Row, Rows, names_static};
 use acl_stmt::{PrivList, Target};
 use priv_sets::Level;
 use std::alloc::{AllocError, Global};

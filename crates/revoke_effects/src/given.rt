@@ -9,9 +9,8 @@ ghost use Rattle.acl_stmt.specs.declared.statement.Statement.TheVariants.{Revoke
 ghost use Rattle.acl_stmt.specs.declared.target.Target.TheVariants.{Schema as OnSchema};
 ghost use Rattle.revoke_effects.specs.Given.{restriction_of};
 
-use crate::names::names_static;
 use acl_names::{AuthId, Ident};
-use acl_rows::{Row, Rows};
+use acl_rows::{Row, Rows, names_static};
 use acl_stmt::{PrivList, Target};
 use priv_sets::Level;
 use std::alloc::{AllocError, Global};

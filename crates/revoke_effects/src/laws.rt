@@ -2,6 +2,7 @@ ghost use Rattle.std.specs.Prelude.{◌≡◌, ℕ, [], false, None, IsTrue, Lis
 ghost use Rattle.acl_names.specs.declared.auth.AuthId.{AuthId};
 ghost use Rattle.acl_model.specs.Effects.{gives, takes};
 ghost use Rattle.acl_model.specs.Refusals.{first_fault};
+ghost use Rattle.acl_model.specs.Rows.{is_privilege_row};
 ghost use Rattle.acl_model.specs.State.{State};
 ghost use Rattle.acl_model.specs.declared.row.Row.{Row};
 ghost use Rattle.acl_model.specs.declared.row.Row.TheVariants.{Dynamic, DynamicGrant};
@@ -11,7 +12,6 @@ ghost use Rattle.acl_stmt.specs.declared.privileges.PrivList.{PrivList};
 ghost use Rattle.acl_stmt.specs.declared.statement.Statement.TheVariants.{Revoke, RevokeAll};
 ghost use Rattle.acl_stmt.specs.declared.target.Target.{Target};
 ghost use Rattle.revoke_effects.specs.Given.{is_restriction};
-ghost use Rattle.revoke_effects.specs.Taken.{is_privilege_row};
 
 /// The laws that what REVOKE gives are restrictions (`kind`) of accounts that stand, where nothing refuses the statement
 /// (`names`), on privileges of the schema level, where the statement keeps its rules (`level`). It does nothing when it runs.

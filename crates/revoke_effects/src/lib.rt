@@ -4,10 +4,10 @@
 //! MySQL 8.0 Reference Manual, "REVOKE Statement", "Privilege Restriction Using Partial Revokes".
 #![tactic(auto)]
 
+mod columns;
 mod found;
 mod given;
 mod laws;
-mod names;
 mod taken;
 
 pub use found::first_without_grant;

@@ -3,21 +3,18 @@ ghost use Rattle.std.specs.Prelude.{◌≡◌, ◌&&◌, ◌++◌, [], IfOk, OnO
 ghost use Rattle.std.specs.List.{list_any};
 ghost use Rattle.acl_names.specs.AuthId.{same_auth};
 ghost use Rattle.acl_model.specs.Effects.{takes};
-ghost use Rattle.acl_model.specs.Rows.{holder, same_row};
+ghost use Rattle.acl_model.specs.Rows.{holder, is_privilege_row, same_row};
 ghost use Rattle.acl_model.specs.declared.row.Row.{Row as RowValue};
 ghost use Rattle.acl_rows.specs.Tables.{state_of};
 ghost use Rattle.acl_stmt.specs.declared.statement.Statement.TheVariants.{Revoke, RevokeAll};
-ghost use Rattle.revoke_effects.specs.Taken.{is_privilege_row, taken_at, taken_globally, taken_on_function, taken_on_procedure, taken_on_schema, taken_on_table};
+ghost use Rattle.revoke_effects.specs.Taken.{taken_at, taken_globally, taken_on_function, taken_on_procedure, taken_on_schema, taken_on_table};
 
-use crate::names::{names_column, names_dynamic, names_static};
+use crate::columns::names_column;
 use acl_names::{AuthId, Ident};
-use acl_rows::{Row, Rows};
+use acl_rows::{Row, Rows, names_dynamic, names_static};
 use acl_stmt::{PrivList, Target};
-use priv_sets::Level;
+use priv_sets::{Level, Plain};
 use std::alloc::{AllocError, Global};
-
-/// The number of GRANT OPTION.
-const GRANT_OPTION: u8 = 30;
 
 /// The standing rows that REVOKE of privileges at a target takes from the accounts, in no order that is promised; one that an
 /// account listed twice holds stands twice in the list.
@@ -117,13 +114,14 @@ fn is_taken(privileges: &PrivList, target: &Target, row: &Row) -> bool
 fn is_taken_globally(privileges: &PrivList, row: &Row) -> bool
     ensures { result ≡ taken_globally privileges.now row.now }
 {
+    let option = Plain::grant_option().number();
     match row {
         Row::Global(_, p) | Row::Restriction(_, p, _) => {
             names_static(privileges, Level::Global, *p)
         }
         Row::Dynamic(_, d) => names_dynamic(privileges, *d),
         Row::DynamicGrant(_, d) => {
-            names_dynamic(privileges, *d) || names_static(privileges, Level::Global, GRANT_OPTION)
+            names_dynamic(privileges, *d) || names_static(privileges, Level::Global, option)
         }
         _ => false,
     }

@@ -5,12 +5,12 @@ use Rattle.std.specs.List.{All}
 use Rattle.std.proofs.lemmas.List.{get_or-set_same, get_or-set_other, map-append, length-map, take-append-le}
 use Rattle.acl_stmt.specs.declared.entry.Entry.{Entry}
 use Rattle.line_answers.specs.declared.answer.Answer.{Answer}
-use Rattle.line_reports.specs.declared.report.LineAnswer.{LineAnswer}
+use Rattle.line_answers.specs.declared.report.LineAnswer.{LineAnswer}
 use Rattle.script_lines.specs.declared.lines.Line.{Line}
 use Rattle.script_read.specs.declared.command.Command.{Command}
 use Rattle.script_run.specs.Calls.{call_of}
 use Rattle.script_run.specs.Seats.{IsFresh, IsSound, IsSoundState, Steps, session_in}
-use Rattle.script_run.specs.Told.{Asked, asked, asked_by, told, told_by, told_turn}
+use Rattle.script_run.specs.Told.{Asked, answers_told, asked, asked_by, told_by, told_turn}
 use Rattle.script_run.specs.declared.seat.Seat.{Seat}
 use Rattle.priv_map.specs.Readings.{IsReadAt}
 use Rattle.session_check.specs.Session.{StandsFor, acting_of, points_of, read_after}
@@ -28,7 +28,7 @@ Seated past entries k seat = (session_in seat ≡ session_of k past) × IsSound 
 pub record IsUnderWay (lines : List (Line Command)) (answers : List (ℕ × LineAnswer)) (sessions : ℕ) (seats : List Seat) (entries : List Entry) : Type 0 where
   pub past : Past
   pub asked_is : asked past ≡ map asked_by lines
-  pub told_is : told past ≡ answers
+  pub told_is : answers_told past ≡ answers
   pub legal : IsLegal past
   pub entries_are : entries ≡ history past
   pub each : (k : ℕ) (d : Seat) → k < length seats → Seated past entries k (get_or seats k d)
@@ -81,7 +81,7 @@ under_way_next lines answers sessions seats entries after line old new answer wa
     steps.session ∙ ap (λ s. after_line (length entries) (call_of line.command) answer s) was.0 ∙ ap (λ es. after_line (length es) (call_of line.command) answer (session_of k past)) way.entries_are ∙ sym (own past turn) in
     let may : MayAnswer (history past) k (session_of k past) (call_of line.command) answer steps.accepted =
     subst (λ es. MayAnswer es k (session_of k past) (call_of line.command) answer steps.accepted) way.entries_are
-    (subst (λ s. MayAnswer entries k s (call_of line.command) answer steps.accepted) was.0 steps.told) in
+    (subst (λ s. MayAnswer entries k s (call_of line.command) answer steps.accepted) was.0 steps.by_rule) in
     let tells : told_turn turn (session_of k (turn ∷ past)) ≡ told_by k line.number answer new = ap (told_turn turn) (sym now) in
     record {
       past = turn ∷ past;
@@ -140,10 +140,10 @@ under_way_first sessions seats answers entries long fresh none nothing = record 
   long = long;
 }
 
-same_places : (past : Past) → map (λ (told : ℕ × LineAnswer). told.0) (told past) ≡ map (λ (a : Asked). a.session) (asked past)
+same_places : (past : Past) → map (λ (answer : ℕ × LineAnswer). answer.0) (answers_told past) ≡ map (λ (a : Asked). a.session) (asked past)
 same_places [] = refl
 same_places (turn ∷ past) =
-    map-append (λ (told : ℕ × LineAnswer). told.0) (told past) (told_turn turn (session_of turn.session (turn ∷ past)) ∷ [])
+    map-append (λ (answer : ℕ × LineAnswer). answer.0) (answers_told past) (told_turn turn (session_of turn.session (turn ∷ past)) ∷ [])
     ∙ ap (λ places. places ++ turn.session ∷ []) (same_places past)
     ∙ sym (map-append (λ (a : Asked). a.session) (asked past) (record { session = turn.session; line = turn.line; call = turn.call } ∷ []))
 
@@ -165,9 +165,9 @@ asked_places (line ∷ lines) = ap (λ places. line.session ∷ places) (asked_p
 pub under_way_seated : (lines : List (Line Command)) (answers : List (ℕ × LineAnswer)) (sessions : ℕ) (seats : List Seat) (entries : List Entry)
     → IsUnderWay lines answers sessions seats entries → All (λ line. line.session < sessions) lines → All (λ answer. answer.0 < sessions) answers
 under_way_seated lines answers sessions seats entries way seated =
-    let places : map (λ (told : ℕ × LineAnswer). told.0) answers ≡ map (λ (line : Line Command). line.session) lines =
-    sym (ap (map (λ (told : ℕ × LineAnswer). told.0)) way.told_is) ∙ same_places way.past ∙ ap (map (λ (a : Asked). a.session)) way.asked_is ∙ asked_places lines in
-    all_unmapped sessions (λ (told : ℕ × LineAnswer). told.0) answers
+    let places : map (λ (answer : ℕ × LineAnswer). answer.0) answers ≡ map (λ (line : Line Command). line.session) lines =
+    sym (ap (map (λ (answer : ℕ × LineAnswer). answer.0)) way.told_is) ∙ same_places way.past ∙ ap (map (λ (a : Asked). a.session)) way.asked_is ∙ asked_places lines in
+    all_unmapped sessions (λ (answer : ℕ × LineAnswer). answer.0) answers
     (subst (All (λ p. p < sessions)) (sym places) (all_mapped sessions (λ (line : Line Command). line.session) lines seated))
 
 pub all_fresh : (seats : List Seat) (seat : Seat) → All IsFresh seats → IsFresh seat → All IsFresh (seats ++ seat ∷ [])

@@ -25,11 +25,11 @@ use Rattle.line_answers.specs.declared.answer.LoginRefusal.TheVariants.{NoAccoun
 use Rattle.priv_map.specs.Readings.{IsReadAt, current_of, reading_of}
 use Rattle.priv_map.specs.declared.acting.Acting.{Acting as ActingAs}
 use Rattle.script_run.specs.Denials.{is_want}
-use Rattle.script_run.specs.Seats.{Answers, IsSound, IsSoundState, Steps, Tries, acting_as, session_in}
+use Rattle.script_run.specs.Seats.{OnlyAnswers, IsSound, IsSoundState, Steps, Tries, acting_as, session_in}
 use Rattle.script_run.specs.Seats.Tries.{Accepts, Refuses, Lacks}
 use Rattle.script_run.specs.declared.seat.Seat.{Seat}
 use Rattle.session_check.specs.Session.{StandsFor, UsesSchema, acting_of, points_of, readings_after}
-use Rattle.session_check.specs.declared.points.Points.{Points}
+use Rattle.line_answers.specs.declared.points.Points.{Points}
 use Rattle.session_check.specs.declared.session.SessionState.{SessionState}
 use Rattle.session_rules.specs.Answers.{IsAnswered, IsEntryOf, IsIssued, at_host, check_answer, chosen, goodbye, login_answer, no_right, readings, state_at, state_now, use_answer, verdict_answer}
 use Rattle.session_rules.specs.Sessions.{Acting, Session, after_check, after_connect, after_line, connected, seeing, with_current}
@@ -37,37 +37,37 @@ use Rattle.session_rules.specs.Sessions.Call.{Connect, Disconnect, Use, Check, I
 
 -- ---- DISCONNECT
 
-pub not_connected : (entries : List Entry) (old : Seat) → old.state ≡ None → IsSound old entries → Answers entries old old Disconnect (Refused NotConnected)
+pub not_connected : (entries : List Entry) (old : Seat) → old.state ≡ None → IsSound old entries → OnlyAnswers entries old old Disconnect (Refused NotConnected)
 unfolding IsAnswered after_line
 not_connected entries old none sound = record {
-  told = λ caller. inl (sym (ap (λ o. goodbye (option_map acting_as o)) none), refl);
+  by_rule = λ caller. inl (sym (ap (λ o. goodbye (option_map acting_as o)) none), refl);
   session = refl;
   sound = sound;
 }
 
 pub disconnects : (entries : List Entry) (old : Seat) (st : SessionState) → old.state ≡ Some st
-    → Answers entries old (record { state = None; points = old.points; seen = old.seen; calls = old.calls }) Disconnect Bye
+    → OnlyAnswers entries old (record { state = None; points = old.points; seen = old.seen; calls = old.calls }) Disconnect Bye
 unfolding IsAnswered after_line
 disconnects entries old st is = record {
-  told = λ caller. inl (sym (ap (λ o. goodbye (option_map acting_as o)) is), refl);
+  by_rule = λ caller. inl (sym (ap (λ o. goodbye (option_map acting_as o)) is), refl);
   session = refl;
   sound = tt;
 }
 
 -- ---- USE
 
-pub not_connected_use : (entries : List Entry) (old : Seat) (schema : List ℕ) → old.state ≡ None → IsSound old entries → Answers entries old old (Use schema) (Refused NotConnected)
+pub not_connected_use : (entries : List Entry) (old : Seat) (schema : List ℕ) → old.state ≡ None → IsSound old entries → OnlyAnswers entries old old (Use schema) (Refused NotConnected)
 unfolding IsAnswered after_line
 not_connected_use entries old schema none sound = record {
-  told = λ caller. inl (sym (ap (λ o. use_answer (option_map acting_as o) schema) none), refl);
+  by_rule = λ caller. inl (sym (ap (λ o. use_answer (option_map acting_as o) schema) none), refl);
   session = refl;
   sound = sound;
 }
 
-pub no_memory_use : (entries : List Entry) (old new : Seat) (schema : List ℕ) → new ≡ old → IsSound old entries → Answers entries old new (Use schema) (Refused NoMemory)
+pub no_memory_use : (entries : List Entry) (old new : Seat) (schema : List ℕ) → new ≡ old → IsSound old entries → OnlyAnswers entries old new (Use schema) (Refused NoMemory)
 unfolding IsAnswered after_line
 no_memory_use entries old new schema same sound = record {
-  told = λ caller. inr (refl, refl);
+  by_rule = λ caller. inr (refl, refl);
   session = ap session_in same;
   sound = subst (λ seat. IsSound seat entries) (sym same) sound;
 }
@@ -81,7 +81,7 @@ sound_of entries old st is sound = subst (λ o. IsSoundState o old entries) is s
 
 pub uses : (entries : List Entry) (old : Seat) (st after : SessionState) (schema name : List ℕ) (points : Points) (seen : ℕ) → old.state ≡ Some st → IsSound old entries → name ≡ schema
     → UsesSchema st after schema (length entries) → (StandsFor st entries → StandsFor after entries) → points ≡ points_of after → seen ≡ length entries
-    → Answers entries old (record { state = Some after; points = points; seen = seen; calls = old.calls }) (Use schema) (Schema name)
+    → OnlyAnswers entries old (record { state = Some after; points = points; seen = seen; calls = old.calls }) (Use schema) (Schema name)
 unfolding IsAnswered after_line
 uses entries old st after schema name points seen is sound same used later points_is seen_is =
     let was = sound_of entries old st is sound in
@@ -92,24 +92,24 @@ uses entries old st after schema name points seen is sound same used later point
     let global : points.global ≡ old.points.global = ap (λ (p : Points). p.global) (points_is ∙ used.points) ∙ ap (λ (p : Points). p.global) was.1 in
     let at : points.schema ≡ length entries = ap (λ (p : Points). p.schema) (points_is ∙ used.points) in
     record {
-      told = λ caller. inl (ap Schema same ∙ sym (ap (λ o. use_answer (option_map acting_as o) schema) is), refl);
+      by_rule = λ caller. inl (ap Schema same ∙ sym (ap (λ o. use_answer (option_map acting_as o) schema) is), refl);
       session = λ i. record { acting = acts i; global = global i; schema = at i; now = seen_is i; calls = old.calls };
       sound = (later was.0, sym points_is);
     }
 
 -- ---- CHECK
 
-pub not_connected_check : (entries : List Entry) (old : Seat) (privileges : PrivList) (target : Target) → old.state ≡ None → IsSound old entries → Answers entries old old (Check privileges target) (Refused NotConnected)
+pub not_connected_check : (entries : List Entry) (old : Seat) (privileges : PrivList) (target : Target) → old.state ≡ None → IsSound old entries → OnlyAnswers entries old old (Check privileges target) (Refused NotConnected)
 unfolding IsAnswered after_line
 not_connected_check entries old privileges target none sound = record {
-  told = λ caller. inl (sym (ap (λ o. check_answer entries (session_in old) (option_map acting_as o) privileges target) none), refl);
+  by_rule = λ caller. inl (sym (ap (λ o. check_answer entries (session_in old) (option_map acting_as o) privileges target) none), refl);
   session = refl;
   sound = sound;
 }
 
-pub no_memory_check : (entries : List Entry) (old : Seat) (privileges : PrivList) (target : Target) → IsSound old entries → Answers entries old old (Check privileges target) (Refused NoMemory)
+pub no_memory_check : (entries : List Entry) (old : Seat) (privileges : PrivList) (target : Target) → IsSound old entries → OnlyAnswers entries old old (Check privileges target) (Refused NoMemory)
 unfolding IsAnswered after_line
-no_memory_check entries old privileges target sound = record { told = λ caller. inr (refl, refl); session = refl; sound = sound }
+no_memory_check entries old privileges target sound = record { by_rule = λ caller. inr (refl, refl); session = refl; sound = sound }
 
 seen_by : (n : ℕ) (privileges : PrivList) (target : Target) (o : Option Missing) (s : Session) → after_check n (verdict_answer privileges target o) s ≡ seeing n s
 seen_by n privileges target None s = refl
@@ -125,7 +125,7 @@ same_readings entries old st points = λ i. record {
 
 pub checks : (entries : List Entry) (old : Seat) (st : SessionState) (privileges : PrivList) (target : Target) (answer : Answer) (seen : ℕ) → old.state ≡ Some st → IsSound old entries
     → answer ≡ verdict_answer privileges target (verdict_of (readings_after st entries) privileges target) → seen ≡ length entries
-    → Answers entries old (record { state = old.state; points = old.points; seen = seen; calls = old.calls }) (Check privileges target) answer
+    → OnlyAnswers entries old (record { state = old.state; points = old.points; seen = seen; calls = old.calls }) (Check privileges target) answer
 unfolding IsAnswered after_line
 checks entries old st privileges target answer seen is sound told_is seen_is =
     let was = sound_of entries old st is sound in
@@ -135,7 +135,7 @@ checks entries old st privileges target answer seen is sound told_is seen_is =
     let sees : session_in (record { state = old.state; points = old.points; seen = seen; calls = old.calls }) ≡ seeing (length entries) (session_in old) =
     λ i. record { acting = option_map acting_as old.state; global = old.points.global; schema = old.points.schema; now = seen_is i; calls = old.calls } in
     record {
-      told = λ caller. inl (expected, refl);
+      by_rule = λ caller. inl (expected, refl);
       session = sees ∙ sym (seen_by (length entries) privileges target (verdict_of (readings_after st entries) privileges target) (session_in old))
           ∙ ap (λ a. after_check (length entries) a (session_in old)) (sym told_is);
       sound = sound_as old.state old (record { state = old.state; points = old.points; seen = seen; calls = old.calls }) entries refl sound;
@@ -144,23 +144,23 @@ checks entries old st privileges target answer seen is sound told_is seen_is =
 -- ---- CONNECT
 
 pub enters : (entries : List Entry) (old new : Seat) (user : List ℕ) (shown : AuthId) (answer : Answer) → chosen (state_now entries) user ≡ Some shown → answer ≡ Connected shown
-    → session_in new ≡ connected (length entries) shown (session_in old) → IsSound new entries → Answers entries old new (Connect user) answer
+    → session_in new ≡ connected (length entries) shown (session_in old) → IsSound new entries → OnlyAnswers entries old new (Connect user) answer
 unfolding IsAnswered after_line
 enters entries old new user shown answer chosen_is answer_is session_is sound = record {
-  told = λ caller. inl (answer_is ∙ sym (ap login_answer chosen_is), refl);
+  by_rule = λ caller. inl (answer_is ∙ sym (ap login_answer chosen_is), refl);
   session = session_is ∙ sym (ap (λ a. after_connect (length entries) a (session_in old)) answer_is);
   sound = sound;
 }
 
 pub finds_none : (entries : List Entry) (old : Seat) (user : List ℕ) → chosen (state_now entries) user ≡ None
-    → Answers entries old (record { state = None; points = old.points; seen = old.seen; calls = old.calls + 1 }) (Connect user) (Refused (Login NoAccount))
+    → OnlyAnswers entries old (record { state = None; points = old.points; seen = old.seen; calls = old.calls + 1 }) (Connect user) (Refused (Login NoAccount))
 unfolding IsAnswered after_line
-finds_none entries old user none = record { told = λ caller. inl (sym (ap login_answer none), refl); session = refl; sound = tt }
+finds_none entries old user none = record { by_rule = λ caller. inl (sym (ap login_answer none), refl); session = refl; sound = tt }
 
 pub no_memory_connect : (entries : List Entry) (old : Seat) (user : List ℕ)
-    → Answers entries old (record { state = None; points = old.points; seen = old.seen; calls = old.calls }) (Connect user) (Refused NoMemory)
+    → OnlyAnswers entries old (record { state = None; points = old.points; seen = old.seen; calls = old.calls }) (Connect user) (Refused NoMemory)
 unfolding IsAnswered after_line
-no_memory_connect entries old user = record { told = λ caller. inr (refl, refl); session = refl; sound = tt }
+no_memory_connect entries old user = record { by_rule = λ caller. inr (refl, refl); session = refl; sound = tt }
 
 -- ---- logins
 
@@ -215,7 +215,7 @@ unfolding IsAnswered after_line
 not_connected_issue entries caller old statement none sound = record {
   accepted = [];
   more = nothing_more entries;
-  told = inl (subst (λ o. IsIssued entries caller (session_in old) (option_map acting_as o) statement (Refused NotConnected) []) (sym none) (refl, refl));
+  by_rule = inl (subst (λ o. IsIssued entries caller (session_in old) (option_map acting_as o) statement (Refused NotConnected) []) (sym none) (refl, refl));
   session = refl;
   sound = sound;
 }
@@ -223,7 +223,7 @@ not_connected_issue entries caller old statement none sound = record {
 pub no_memory_issue : (entries : List Entry) (caller : ℕ) (old : Seat) (statement : AnyStatement) → IsSound old entries
     → Steps entries entries caller old old (Issue statement) (Refused NoMemory)
 unfolding IsAnswered after_line
-no_memory_issue entries caller old statement sound = record { accepted = []; more = nothing_more entries; told = inr (refl, refl); session = refl; sound = sound }
+no_memory_issue entries caller old statement sound = record { accepted = []; more = nothing_more entries; by_rule = inr (refl, refl); session = refl; sound = sound }
 
 by_root : (P Q : Type 0) (t : Bool) → t ≡ true → P → MatchBool t P Q
 by_root P Q true is p = p
@@ -240,7 +240,7 @@ unfolding IsAnswered after_line
 denies entries caller old st statement denial is sound other same = record {
   accepted = [];
   more = nothing_more entries;
-  told = inl (subst (λ o. IsIssued entries caller (session_in old) (option_map acting_as o) statement (Refused (Denied denial)) []) (sym is)
+  by_rule = inl (subst (λ o. IsIssued entries caller (session_in old) (option_map acting_as o) statement (Refused (Denied denial)) []) (sym is)
       (by_other _ _ (same_auth (acting_of st).account root) other (ap (λ d. Refused (Denied d)) same, refl)));
   session = refl;
   sound = sound_as old.state old (record { state = old.state; points = old.points; seen = old.seen; calls = old.calls + 1 }) entries refl sound;
@@ -259,7 +259,7 @@ unfolding IsAnswered after_line
 tries before after caller old new st statement entry answer is sound by is_entry later (Accepts accepted more answer_is new_is) = record {
   accepted = entry ∷ [];
   more = more;
-  told = inl (subst (λ o. IsIssued before caller (session_in old) (option_map acting_as o) statement answer (entry ∷ [])) (sym is)
+  by_rule = inl (subst (λ o. IsIssued before caller (session_in old) (option_map acting_as o) statement answer (entry ∷ [])) (sym is)
       (by_root _ _ (same_auth (acting_of st).account root) by (inl (record { entry = entry; is_entry = is_entry; is_accepted = accepted; answer_is = answer_is; accepted_is = refl }))));
   session = ap session_in new_is ∙ sym (ap (λ a. after_line (length before) (Issue statement) a (session_in old)) answer_is);
   sound = subst (λ es. IsSound new es) (sym more) (subst (λ seat. IsSound seat (before ++ entry ∷ [])) (sym new_is)
@@ -268,7 +268,7 @@ tries before after caller old new st statement entry answer is sound by is_entry
 tries before after caller old new st statement entry answer is sound by is_entry later (Refuses reason refused same answer_is new_is) = record {
   accepted = [];
   more = same ∙ nothing_more before;
-  told = inl (subst (λ o. IsIssued before caller (session_in old) (option_map acting_as o) statement answer []) (sym is)
+  by_rule = inl (subst (λ o. IsIssued before caller (session_in old) (option_map acting_as o) statement answer []) (sym is)
       (by_root _ _ (same_auth (acting_of st).account root) by (inr (record { entry = entry; why = reason; is_entry = is_entry; is_refused = refused; answer_is = answer_is; accepted_is = refl }))));
   session = ap session_in new_is ∙ sym (ap (λ a. after_line (length before) (Issue statement) a (session_in old)) answer_is);
   sound = subst (λ es. IsSound new es) (sym same) (subst (λ seat. IsSound seat before) (sym new_is)
@@ -277,7 +277,7 @@ tries before after caller old new st statement entry answer is sound by is_entry
 tries before after caller old new st statement entry answer is sound by is_entry later (Lacks same answer_is new_is) = record {
   accepted = [];
   more = same ∙ nothing_more before;
-  told = inr (answer_is, refl);
+  by_rule = inr (answer_is, refl);
   session = ap session_in new_is ∙ sym (ap (λ a. after_line (length before) (Issue statement) a (session_in old)) answer_is);
   sound = subst (λ es. IsSound new es) (sym same) (subst (λ seat. IsSound seat before) (sym new_is) sound);
 }

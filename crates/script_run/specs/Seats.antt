@@ -40,13 +40,13 @@ IsSound seat entries = IsSoundState seat.state seat entries
 pub record Steps (before after : List Entry) (caller : ℕ) (old new : Seat) (call : Call) (answer : Answer) : Type 0 where
   pub accepted : List Entry
   pub more : after ≡ before ++ accepted
-  pub told : MayAnswer before caller (session_in old) call answer accepted
+  pub by_rule : MayAnswer before caller (session_in old) call answer accepted
   pub session : session_in new ≡ after_line (length before) call answer (session_in old)
   pub sound : IsSound new after
 
 -- the same, where nothing is accepted
-pub record Answers (entries : List Entry) (old new : Seat) (call : Call) (answer : Answer) : Type 0 where
-  pub told : (caller : ℕ) → MayAnswer entries caller (session_in old) call answer []
+pub record OnlyAnswers (entries : List Entry) (old new : Seat) (call : Call) (answer : Answer) : Type 0 where
+  pub by_rule : (caller : ℕ) → MayAnswer entries caller (session_in old) call answer []
   pub session : session_in new ≡ after_line (length entries) call answer (session_in old)
   pub sound : IsSound new entries
 
@@ -55,7 +55,7 @@ pub record IsEntered (entries : List Entry) (entered : Entered) : Type 0 where
   pub account : (acting_of entered.state).account ≡ entered.shown
   pub current : current_of (acting_of entered.state) ≡ None
   pub points : points_of entered.state ≡ record { global = length entries; schema = length entries }
-  pub stands : StandsFor entered.state entries
+  pub sound : StandsFor entered.state entries
 
 -- a session before its first line
 pub record IsFresh (seat : Seat) : Type 0 where

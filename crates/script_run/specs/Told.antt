@@ -1,7 +1,7 @@
 -- What a run of lines tells.
 use Rattle.std.specs.Prelude.{◌≡◌, ℕ, List, [], ◌∷◌, ◌++◌, length, map}
 use Rattle.line_answers.specs.declared.answer.Answer.{Answer}
-use Rattle.line_reports.specs.declared.report.LineAnswer.{LineAnswer}
+use Rattle.line_answers.specs.declared.report.LineAnswer.{LineAnswer}
 use Rattle.script_lines.specs.declared.lines.Line.{Line}
 use Rattle.script_read.specs.declared.command.Command.{Command}
 use Rattle.script_run.specs.Calls.{call_of}
@@ -29,15 +29,15 @@ told_turn turn session =
     (turn.session, record { line = turn.line; answer = turn.answer; points = record { global = session.global; schema = session.schema }; now = session.now })
 
 -- what these turns tell, in the order of the script, each beside the place of its session
-abbrev pub told : Past → List (ℕ × LineAnswer)
-told [] = []
-told (turn ∷ past) = told past ++ told_turn turn (session_of turn.session (turn ∷ past)) ∷ []
+abbrev pub answers_told : Past → List (ℕ × LineAnswer)
+answers_told [] = []
+answers_told (turn ∷ past) = answers_told past ++ told_turn turn (session_of turn.session (turn ∷ past)) ∷ []
 
 -- these answers are those of a legal run of the lines, which accepted so many statements
 pub record IsRun (lines : List (Line Command)) (answers : List (ℕ × LineAnswer)) (count : ℕ) : Type 0 where
   pub past : Past
   pub asked_is : asked past ≡ map asked_by lines
-  pub told_is : told past ≡ answers
+  pub told_is : answers_told past ≡ answers
   pub legal : IsLegal past
   pub count_is : length (history past) ≡ count
 

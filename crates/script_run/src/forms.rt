@@ -6,14 +6,9 @@ ghost use Rattle.script_run.specs.Forms.{has_no_options, has_no_password, is_bui
 
 use account_match::Client;
 use acl_names::{AuthId, Verifier};
+use acl_rows::empty_verifier;
 use acl_stmt::{AccountOptions, PrivList, Statement};
 use script_read::{Command, Forms};
-
-// The SHA-256 digest of no bytes, which is the verifier of the empty password.
-const EMPTY: [u8; 32] = [
-    0xe3, 0xb0, 0xc4, 0x42, 0x98, 0xfc, 0x1c, 0x14, 0x9a, 0xfb, 0xf4, 0xc8, 0x99, 0x6f, 0xb9, 0x24,
-    0x27, 0xae, 0x41, 0xe4, 0x64, 0x9b, 0x93, 0x4c, 0xa4, 0x95, 0x99, 0x1b, 0x78, 0x52, 0xb8, 0x55,
-];
 
 /// The commands that a run takes so far: CONNECT of a local client without a password, DISCONNECT, USE, CHECK, and
 /// statements on accounts and static privileges.
@@ -48,7 +43,7 @@ fn is_local(client: &Client) -> bool
 fn is_empty(verifier: Verifier) -> bool
     ensures { result ≡ has_no_password verifier }
 {
-    verifier.0 == EMPTY
+    verifier.0 == empty_verifier().0
 }
 
 // Whether the list names no dynamic privilege.

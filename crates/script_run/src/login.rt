@@ -46,17 +46,17 @@ fn choose(alloc: Global, rows: &Rows, user: &UserName) -> Result<Option<AuthId>,
     ensures { IfOk result (λ account. account ≡ chosen (state_of rows.now) user.now) }
 {
     let local = at_host(alloc, user, "localhost")?;
-    if stands(rows, &local) {
+    if is_standing(rows, &local) {
         return Ok(Some(local));
     }
     let anywhere = at_host(alloc, user, "%")?;
-    if stands(rows, &anywhere) {
+    if is_standing(rows, &anywhere) {
         return Ok(Some(anywhere));
     }
     Ok(None)
 }
 
-fn stands(rows: &Rows, account: &AuthId) -> bool
+fn is_standing(rows: &Rows, account: &AuthId) -> bool
     ensures { result ≡ stands (state_of rows.now) account.now }
 {
     rows.account(account).is_some()

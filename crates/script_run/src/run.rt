@@ -9,8 +9,7 @@ ghost use Rattle.script_run.specs.Told.{IsRun, told_by};
 
 use crate::issue::issue;
 use crate::seat::Seat;
-use line_answers::Answer;
-use line_reports::LineAnswer;
+use line_answers::{Answer, LineAnswer};
 use map_publish::Published;
 use script_read::{Command, Line};
 use std::alloc::{AllocError, Global};
@@ -39,7 +38,7 @@ pub fn run_lines(alloc: Global, sessions: usize, lines: &[Line]) -> Result<Run, 
     for line in lines {
         let seat = &mut seats[line.session as usize];
         let answer = answer(alloc, &mut published, seat, line.session, &line.command);
-        answers.push(told(line.session, line.number, answer, seat))?;
+        answers.push(told_by(line.session, line.number, answer, seat))?;
     }
     Ok(Run {
         answers,
@@ -73,16 +72,16 @@ fn answer(
     }
 }
 
-fn told(session: u32, line: u32, answer: Answer, seat: &Seat) -> (u32, LineAnswer)
+fn told_by(session: u32, line: u32, answer: Answer, seat: &Seat) -> (u32, LineAnswer)
     ensures { result ≡ told_by session line answer seat.now }
 {
-    let told = LineAnswer {
+    let answered = LineAnswer {
         line,
         answer,
         points: seat.points,
         now: seat.seen,
     };
-    (session, told)
+    (session, answered)
 }
 
 fn empty_seats(alloc: Global, count: usize) -> Result<Vec<Seat>, AllocError>

@@ -2,7 +2,7 @@
 ghost use Rattle.std.specs.Prelude.{◌≡◌, ◌+◌, ◌<◌, ◌^◌, [], None, Some, length, IfOk, OnErr, OnOk};
 ghost use Rattle.map_publish.specs.History.{entries_of};
 ghost use Rattle.line_answers.specs.declared.answer.Answer.TheVariants.{Connected};
-ghost use Rattle.script_run.specs.Seats.{Answers, IsEntered, IsSound, session_in};
+ghost use Rattle.script_run.specs.Seats.{OnlyAnswers, IsEntered, IsSound, session_in};
 ghost use Rattle.session_check.specs.Session.{StandsFor, UsesSchema, readings_after};
 ghost use Rattle.session_rules.specs.Answers.{verdict_answer};
 ghost use Rattle.acl_model.specs.Verdict.{verdict_of};
@@ -13,10 +13,10 @@ use crate::denial::denial_of;
 use crate::login::{Entered, log_in};
 use acl_names::{Ident, UserName};
 use acl_stmt::Request;
-use line_answers::{Answer, LineRefusal, LoginRefusal};
+use line_answers::{Answer, LineRefusal, LoginRefusal, Points};
 use map_publish::Published;
 use priv_map::Verdict;
-use session_check::{Points, SessionState};
+use session_check::SessionState;
 use std::alloc::{AllocError, Global};
 
 /// What is stored of a session.
@@ -57,7 +57,7 @@ impl Seat {
         user: &UserName,
     ) -> Answer
         requires room { self.old.calls + 1 < 2 ^ 32 }
-        ensures { Answers (entries_of published.now) self.old self.new (Connect user.now) result }
+        ensures { OnlyAnswers (entries_of published.now) self.old self.new (Connect user.now) result }
     {
         self.state = None;
         match log_in(alloc, published, user) {
@@ -89,7 +89,7 @@ impl Seat {
     /// DISCONNECT.
     pub(crate) fn disconnect(&mut self, published: &Published) -> Answer
         requires sound { IsSound self.old (entries_of published.now) }
-        ensures { Answers (entries_of published.now) self.old self.new Disconnect result }
+        ensures { OnlyAnswers (entries_of published.now) self.old self.new Disconnect result }
     {
         match &self.state {
             None => Answer::Refused(LineRefusal::NotConnected),
@@ -108,7 +108,7 @@ impl Seat {
         schema: &Ident,
     ) -> Answer
         requires sound { IsSound self.old (entries_of published.now) }
-        ensures { Answers (entries_of published.now) self.old self.new (Use schema.now) result }
+        ensures { OnlyAnswers (entries_of published.now) self.old self.new (Use schema.now) result }
     {
         match &mut self.state {
             None => Answer::Refused(LineRefusal::NotConnected),
@@ -131,7 +131,7 @@ impl Seat {
         request: &Request,
     ) -> Answer
         requires sound { IsSound self.old (entries_of published.now) }
-        ensures { Answers (entries_of published.now) self.old self.new
+        ensures { OnlyAnswers (entries_of published.now) self.old self.new
             (Check request.now.privileges request.now.target) result }
     {
         match &self.state {

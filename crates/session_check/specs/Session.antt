@@ -4,9 +4,9 @@ use Rattle.acl_model.specs.Effects.{state_after}
 use Rattle.acl_model.specs.State.{opening}
 use Rattle.acl_model.specs.Verdict.{Reading, Readings}
 use Rattle.acl_stmt.specs.declared.entry.Entry.{Entry}
+use Rattle.line_answers.specs.declared.points.Points.{Points}
 use Rattle.priv_map.specs.Readings.{IsReadAt, current_of, reading_of, readings_of}
 use Rattle.priv_map.specs.declared.acting.Acting.{Acting}
-use Rattle.session_check.specs.declared.points.Points.{Points}
 use Rattle.session_check.specs.declared.session.SessionState.{SessionState}
 
 abbrev pub acting_of : SessionState → Acting

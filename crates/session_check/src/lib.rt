@@ -4,9 +4,7 @@
 #![tactic(auto)]
 
 mod laws;
-mod points;
 mod session;
 
 pub use laws::later_statements_keep_what_was_read;
-pub use points::Points;
 pub use session::SessionState;

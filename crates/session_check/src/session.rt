@@ -7,9 +7,9 @@ ghost use Rattle.map_publish.specs.History.{entries_of};
 ghost use Rattle.priv_map.specs.Denials.{denial_of};
 ghost use Rattle.priv_map.specs.Readings.{IsReadAt, reading_of};
 
-use crate::Points;
 use acl_names::Ident;
 use acl_stmt::Request;
+use line_answers::Points;
 use map_publish::Published;
 use priv_map::{Acting, Verdict};
 use std::alloc::{AllocError, Global};

@@ -42,8 +42,8 @@ pub data Call : Type 0 where
 abbrev pub disconnected : Session → Session
 disconnected session = record { acting = None; global = session.global; schema = session.schema; now = session.now; calls = session.calls }
 
-abbrev pub counted : Session → Session
-counted session = record { acting = session.acting; global = session.global; schema = session.schema; now = session.now; calls = session.calls + 1 }
+abbrev pub with_call_counted : Session → Session
+with_call_counted session = record { acting = session.acting; global = session.global; schema = session.schema; now = session.now; calls = session.calls + 1 }
 
 abbrev pub seeing : ℕ → Session → Session
 seeing now session = record { acting = session.acting; global = session.global; schema = session.schema; now = now; calls = session.calls }
@@ -64,7 +64,7 @@ using length schema session = record { acting = with_current schema session.acti
 abbrev pub after_connect : ℕ → Answer → Session → Session
 after_connect length (Connected account) session = connected length account session
 after_connect length (Refused NoMemory) session = disconnected session
-after_connect length _ session = counted (disconnected session)
+after_connect length _ session = with_call_counted (disconnected session)
 
 abbrev pub after_disconnect : Answer → Session → Session
 after_disconnect Bye session = disconnected session
@@ -81,9 +81,9 @@ after_check length _ session = session
 
 -- a statement that was answered counts, but for want of a connection and of memory
 abbrev pub after_issue : Answer → Session → Session
-after_issue (Done position) session = seeing position (counted session)
-after_issue (Refused (Denied denial)) session = counted session
-after_issue (Refused (OfStatement refusal)) session = counted session
+after_issue (Done position) session = seeing position (with_call_counted session)
+after_issue (Refused (Denied denial)) session = with_call_counted session
+after_issue (Refused (OfStatement refusal)) session = with_call_counted session
 after_issue _ session = session
 
 -- a session after a line with this answer, before which so many statements had been accepted

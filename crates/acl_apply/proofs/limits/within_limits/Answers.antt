@@ -1,8 +1,9 @@
 use Rattle.std.proofs.Common.{[], ◌∷◌, refl}
 use Rattle.std.proofs.lemmas.Result.{err_from_is_err_and}
 use Rattle.acl_stmt.specs.declared.refusal.Full.TheVariants.{Accounts, Schemas, Pairs, Objects, Edges}
-use Rattle.acl_apply.proofs.Limiting.{first_over, none_of_more, none_of_none}
+use Rattle.acl_apply.proofs.Limiting.{first_over, none_of_more}
 use Rattle.acl_apply.proofs.Refusing.{if_err_weaker}
+use Rattle.revoke_effects.proofs.Listing.{none_of_none}
 use Rattle.acl_apply.proofs.limits.within_limits.Goals as goal
 
 pub returns-in_err-within_limit-clause-err : goal.returns-in_err-within_limit-clause-err

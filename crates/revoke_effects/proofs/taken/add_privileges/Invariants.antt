@@ -1,5 +1,5 @@
 use Rattle.std.proofs.Common.{◌≡◌, ◌++◌, filter, take}
-use Rattle.revoke_effects.specs.Taken.{is_privilege_row}
+use Rattle.acl_model.specs.Rows.{is_privilege_row}
 use Rattle.revoke_effects.proofs.taken.add_privileges.Given as goal
 
 abbrev pub invariant-loop-row : goal.invariant-loop-row

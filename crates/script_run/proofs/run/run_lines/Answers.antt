@@ -44,8 +44,8 @@ loop-line-preserved c =
     let next = under_way_next (take i lines) answers sessions seats (entries_of c.loop-line.published) after line c.index_mut-seat.result.now new c.answer-answer.result c.loop-line.invariant
     (omega (arith, seated, c.loop-line.invariant.long)) c.index_mut-seat.ensures.value c.answer-answer.ensures in
     let e : take i lines ++ line ∷ [] ≡ take (i + 1) lines = ap (λ (l : Line Command). take i lines ++ l ∷ []) c.line-item.is ∙ sym (take_more lines i line c.loop-line-test.true) in
-    let pushed : c.push.new.self.items ≡ answers ++ c.told.result ∷ [] = c.in_ok-push.ensures.items in
-    subst (λ as'. IsUnderWay (take (i + 1) lines) as' sessions (set seats line.session new) after) (sym (pushed ∙ ap (λ t. answers ++ t ∷ []) c.told.ensures))
+    let pushed : c.push.new.self.items ≡ answers ++ c.told_by.result ∷ [] = c.in_ok-push.ensures.items in
+    subst (λ as'. IsUnderWay (take (i + 1) lines) as' sessions (set seats line.session new) after) (sym (pushed ∙ ap (λ t. answers ++ t ∷ []) c.told_by.ensures))
     (subst (λ ls. IsUnderWay ls (answers ++ told_by line.session line.number c.answer-answer.result new ∷ []) sessions (set seats line.session new) after) e next)
 
 pub returns-clause-seated : goal.returns-clause-seated

@@ -1,8 +1,8 @@
-use Rattle.std.proofs.Common.{◌∙◌, ap}
+use Rattle.std.proofs.Common.{◌∙◌}
 use Rattle.std.proofs.lemmas.List.Filters.{dedup_is}
 use Rattle.std.proofs.lemmas.List.Kept.{IsStrictlySortedBy-dedup}
 use Rattle.acl_names.proofs.SameAuth.{equal_from_same_auth, same_auth_itself}
-use Rattle.acl_names.specs.AuthId.{auth_cmp, same_auth}
+use Rattle.acl_names.specs.AuthId.{same_auth}
 use Rattle.acl_rows.specs.Tables.{state_of}
 use Rattle.acl_rows.proofs.Differ.{among_is_has}
 use Rattle.acl_rows.proofs.Members.{auth_equiv, auth_ties, auth_total, members-dedup, members-permutation}

@@ -1,7 +1,6 @@
 use Rattle.std.proofs.Common.{◌≡◌, false}
-use Rattle.acl_names.specs.AuthId.{same_auth}
 use Rattle.acl_model.specs.declared.row.Row.TheVariants.{Account}
-use Rattle.acl_rows.specs.Tables.{Tables, has_account, state_of}
+use Rattle.acl_rows.specs.Tables.{has_account, state_of}
 use Rattle.acl_rows.proofs.Puts.{account_absent}
 use Rattle.acl_rows.proofs.Renamings.{apart_from_stands, differ_renamed, state_renamed}
 use Rattle.acl_rows.proofs.rows.Rows.rename.Goals as goal

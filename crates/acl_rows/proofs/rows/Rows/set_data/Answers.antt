@@ -1,6 +1,3 @@
-use Rattle.std.proofs.Common.{ap}
-use Rattle.acl_names.specs.AuthId.{same_auth}
-use Rattle.acl_model.specs.Counts.{all_differ_by}
 use Rattle.acl_rows.proofs.Data.{names_of-value, state_of-value}
 use Rattle.acl_rows.proofs.rows.Rows.set_data.Goals as goal
 

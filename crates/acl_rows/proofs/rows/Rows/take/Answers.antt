@@ -1,9 +1,6 @@
-use Rattle.std.proofs.Common.{◌≡◌, ◌∙◌, ap, not, sym}
+use Rattle.std.proofs.Common.{not}
 use Rattle.acl_names.specs.AuthId.{same_auth}
-use Rattle.acl_model.specs.declared.row.Row.{Row}
-use Rattle.acl_rows.specs.Changes.{without_row}
-use Rattle.acl_rows.specs.Tables.{Tables, state_of}
-use Rattle.acl_rows.proofs.Differ.{differ, differ-filter}
+use Rattle.acl_rows.proofs.Differ.{differ-filter}
 use Rattle.acl_rows.proofs.Puts.{state_of-no_account, state_of-no_grant}
 use Rattle.acl_rows.proofs.States.{no_account}
 use Rattle.acl_rows.proofs.rows.Rows.take.Goals as goal

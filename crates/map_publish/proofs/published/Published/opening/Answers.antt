@@ -7,6 +7,6 @@ use Rattle.map_publish.proofs.published.Published.opening.Goals as goal
 
 pub invariant_of-result : goal.invariant_of-result
 invariant_of-result c = record {
-  counted = first_of (search rules, grind (arith, common_steps));
+  within = first_of (search rules, grind (arith, common_steps));
   stands = c.in_ok-opening.ensures ∙ sym (after_none opening_state) ∙ ap (λ list. state_after list opening_state) (sym c.new.ensures.items);
 }

@@ -1,4 +1,0 @@
-pub mod Going
-pub mod Coming
-pub mod Members
-pub mod Named

@@ -1,8 +1,0 @@
-use Rattle.std.proofs.Common.{◌≡◌, filter, take}
-use Rattle.acl_rows.specs.Tables.{state_of}
-use Rattle.row_lists.specs.Layers.{is_in}
-use Rattle.row_lists.specs.Lists.{without_rows}
-use Rattle.row_lists.proofs.take.take_layer.Given as goal
-
-abbrev pub invariant-loop-row : goal.invariant-loop-row
-invariant-loop-row l = state_of l.rows ≡ without_rows (filter (is_in l.layer) (take l.row-index l.gone)) (state_of l.fn.rows)
