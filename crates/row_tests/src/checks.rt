@@ -1,0 +1,159 @@
+//! Checks of requests over what an account holds and over what its session has read.
+use crate::texts::{account, entry, request};
+use acl_items::Items;
+use acl_names::Ident;
+use acl_stmt::{Missing, Target};
+use line_answers::{Answer, Denial};
+use priv_map::{Acting, PrivMap, Verdict};
+use std::alloc::Global;
+use std::process::Abort;
+use std::test::Fail;
+
+// Statements, a line each, before `u` logs in and chooses the schema `s`; others after that; and checks, each with its
+// answer.
+struct Session {
+    before: &'static str,
+    after: &'static str,
+    checks: &'static str,
+    answers: &'static str,
+}
+
+static SESSIONS: [Session; 3] = [
+    // The first privilege that is missing is named, with its column.
+    Session {
+        before: "CREATE USER u
+GRANT SELECT (a, c), INSERT ON s.t TO u
+GRANT EXECUTE ON FUNCTION s.f TO u
+GRANT EVENT ON s.* TO u
+GRANT PROCESS, ROLE_ADMIN ON *.* TO u",
+        after: "",
+        checks: "SELECT (a, c) ON s.t
+SELECT (a, b, c) ON s.t
+SELECT ON s.t
+INSERT (z) ON s.t
+DELETE, INSERT, DROP ON s.t
+EXECUTE ON FUNCTION s.F
+EXECUTE ON PROCEDURE s.f
+EVENT ON s.*
+EVENT ON r.*
+PROCESS, ROLE_ADMIN ON *.*
+AUDIT_ADMIN, PROCESS ON *.*
+ALL ON *.*
+ALL ON world.*
+USAGE ON *.*",
+        answers: "allowed
+denied SELECT ON `s`.`t`
+denied SELECT ON `s`.`t`
+allowed
+denied DELETE ON `s`.`t`
+allowed
+denied EXECUTE ON PROCEDURE `s`.`f`
+allowed
+denied EVENT ON `r`.*
+allowed
+denied AUDIT_ADMIN ON *.*
+denied SELECT ON *.*
+denied SELECT ON `world`.*
+allowed
+",
+    },
+    // What is read at login, when the schema is chosen, and at each check.
+    Session {
+        before: "CREATE USER u
+GRANT UPDATE ON *.* TO u",
+        after: "GRANT INSERT ON *.* TO u
+GRANT SELECT ON s.* TO u
+GRANT SELECT ON r.* TO u
+GRANT DELETE ON s.t TO u
+REVOKE UPDATE ON *.* FROM u",
+        checks: "INSERT ON *.*
+UPDATE ON s.t
+SELECT ON s.t
+SELECT ON r.t
+DELETE ON s.t",
+        answers: "denied INSERT ON *.*
+allowed
+denied SELECT ON `s`.`t`
+allowed
+allowed
+",
+    },
+    // Restrictions are read at login, and a grant at a table goes beside them.
+    Session {
+        before: "CREATE USER u
+GRANT SELECT, INSERT, DELETE ON *.* TO u
+REVOKE SELECT, INSERT ON s.* FROM u
+GRANT SELECT ON s.t TO u",
+        after: "GRANT INSERT ON s.* TO u
+REVOKE DELETE ON s.* FROM u
+REVOKE DELETE ON r.* FROM u",
+        checks: "SELECT ON s.t
+SELECT ON s.*
+INSERT ON s.t
+DELETE ON s.t
+DELETE ON r.t
+INSERT ON r.t",
+        answers: "allowed
+denied SELECT ON `s`.* restricted
+denied INSERT ON `s`.`t` restricted
+allowed
+allowed
+allowed
+",
+    },
+];
+
+fn run(rt: &impl Abort, alloc: Global, map: &mut PrivMap, statements: &str) -> Result<(), Fail> {
+    for statement in statements.lines() {
+        let entry = entry(rt, alloc, statement)?;
+        match map.prepare(alloc, &entry) {
+            Ok(change) => map.commit(change),
+            Err(_) => return Err("refused")?,
+        }
+    }
+    Ok(())
+}
+
+fn session(rt: &impl Abort, alloc: Global, map: &PrivMap) -> Result<Acting, Fail> {
+    let user = account(rt, alloc, "u")?;
+    let mut acting = map.acting(alloc, &user, Items::new(alloc))?;
+    let schema = Ident::read(alloc, "s")?;
+    let held = map.schema_held(alloc, &acting, &schema)?;
+    acting.current = Some(held);
+    Ok(acting)
+}
+
+// The columns of a denial are told by the sessions' crate.
+fn denied(missing: Missing, target: Target) -> Answer {
+    Answer::Denied(Denial {
+        missing,
+        target,
+        column: None,
+    })
+}
+
+fn check(alloc: Global, map: &PrivMap, acting: &Acting, text: &str) -> Result<String, Fail> {
+    let request = request(alloc, text)?;
+    let answer = match map.verdict(acting, &request) {
+        Verdict::Allowed => Answer::Allowed,
+        Verdict::Denied(missing) => denied(missing, request.target.copy(alloc)?),
+    };
+    Ok(format!(in alloc; "{answer}\n")?)
+}
+
+#[test]
+fn a_check_names_what_is_missing(rt: HostRuntime) -> Result<(), Fail> {
+    let alloc = rt.alloc();
+    for case in &SESSIONS {
+        let mut map = PrivMap::opening(alloc)?;
+        run(&rt, alloc, &mut map, case.before)?;
+        let acting = session(&rt, alloc, &map)?;
+        run(&rt, alloc, &mut map, case.after)?;
+        let mut answers = String::new(alloc);
+        for text in case.checks.lines() {
+            answers.push_str(check(alloc, &map, &acting, text)?.as_str())?;
+        }
+        assert_eq!(rt; answers.as_str(), case.answers);
+    }
+    Ok(())
+}
