@@ -142,7 +142,7 @@ reached_behind pattern text signs behind rest retry tried passed is so_far =
 pub reached_next : (pattern text signs rest next_signs next_rest retry tried : List ℕ) (passed : Bool) → Goes signs rest next_signs next_rest →
     IsReached pattern text signs rest retry tried passed → IsReached pattern text next_signs next_rest retry tried passed
 reached_next pattern text signs rest next_signs next_rest retry tried passed goes so_far =
-    reached_over pattern text next_signs next_rest retry tried passed goes.sign goes.character goes.fixed goes.stands
+    reached_over pattern text next_signs next_rest retry tried passed goes.sign goes.character goes.fixed goes.sign_fits
     (subst (λ (s : List ℕ). IsReached pattern text s (goes.character ∷ next_rest) retry tried passed) goes.signs_are
     (subst (λ (t : List ℕ). IsReached pattern text signs t retry tried passed) goes.text_is so_far))
 

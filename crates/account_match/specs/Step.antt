@@ -12,7 +12,7 @@ pub record Goes (signs text next_signs next_text : List ℕ) : Type 0 where
   pub signs_are : signs ≡ sign ∷ next_signs
   pub text_is : text ≡ character ∷ next_text
   pub fixed : (sign == 37) ≡ false
-  pub stands : stands_for sign character ≡ true
+  pub sign_fits : stands_for sign character ≡ true
 
 abbrev pub IsStep : List ℕ → List ℕ → Step → Type 0
 IsStep signs text (AnyText behind) = signs ≡ 37 ∷ chars behind.now

@@ -3,4 +3,3 @@ pub mod Exactness
 pub mod Grammar
 pub mod Reader
 pub mod Spelling
-pub mod Example

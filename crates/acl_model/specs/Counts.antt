@@ -1,5 +1,5 @@
 -- How many there are of what is limited (the limits are this product's own).
-use Rattle.std.specs.Prelude.{ℕ, Bool, true, ◌≡◌, ◌<◌, ◌⊎◌, ◌↔◌, ◌&&◌, not, IsTrue, List, [], ◌∷◌, length}
+use Rattle.std.specs.Prelude.{ℕ, Bool, ◌≡◌, ◌<◌, ◌⊎◌, ◌↔◌, ◌&&◌, IsTrue, List, length}
 use Rattle.std.specs.List.{list_any}
 use Rattle.acl_names.specs.declared.auth.AuthId.{AuthId}
 use Rattle.acl_names.specs.AuthId.{same_auth}
@@ -11,10 +11,7 @@ use Rattle.acl_model.specs.declared.row.Row.TheVariants.{Column, Default, Edge, 
 use Rattle.acl_stmt.specs.declared.refusal.Full.{Full}
 use Rattle.acl_stmt.specs.declared.refusal.Full.TheVariants as full
 
--- no item is the same as a later one
-abbrev pub all_differ_by : {X : Type 0} → (X → X → Bool) → List X → Bool
-all_differ_by same [] = true
-all_differ_by same (item ∷ items) = not (list_any (same item) items) && all_differ_by same items
+pub use Rattle.acl_stmt.specs.Lists.{all_differ_by}
 
 -- a list with each item of a set once, and no other
 pub record ListsEachOnce {X : Type 0} (same : X → X → Bool) (P : X → Type 0) (items : List X) : Type 0 where

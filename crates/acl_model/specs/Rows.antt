@@ -1,5 +1,5 @@
 -- Rows of the grant tables (MySQL 8.0 Reference Manual, "Grant Tables"): when two are one, and whom each names.
-use Rattle.std.specs.Prelude.{Bool, false, ◌&&◌, ◌||◌, ◌==◌, List}
+use Rattle.std.specs.Prelude.{Bool, true, false, ◌&&◌, ◌||◌, ◌==◌, List}
 use Rattle.std.specs.List.{list_any}
 use Rattle.acl_names.specs.AuthId.{same_auth}
 use Rattle.acl_names.specs.Text.{text_eq}
@@ -23,6 +23,14 @@ same_row (Admin r a) (Admin q b) = same_auth r q && same_auth a b
 same_row (Default a r) (Default b q) = same_auth a b && same_auth r q
 same_row (Restriction a p s) (Restriction b q t) = same_auth a b && p == q && text_eq s t
 same_row _ _ = false
+
+-- a privilege, its grant option or its restriction: no account, and nothing about a role
+abbrev pub is_privilege_row : Row → Bool
+is_privilege_row (Account a) = false
+is_privilege_row (Edge role to) = false
+is_privilege_row (Admin role to) = false
+is_privilege_row (Default of role) = false
+is_privilege_row _ = true
 
 -- whether a list has an account
 abbrev pub lists : List AuthId → AuthId → Bool

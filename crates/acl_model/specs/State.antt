@@ -5,11 +5,12 @@ use Rattle.acl_names.specs.AuthId.{same_auth}
 use Rattle.acl_names.specs.declared.auth.AuthId.{AuthId}
 use Rattle.acl_names.specs.declared.policy.LockTime.TheVariants.{Days}
 use Rattle.acl_names.specs.declared.policy.Policy.{Policy}
-use Rattle.acl_names.specs.declared.policy.Verifier.{Verifier}
 use Rattle.acl_model.specs.Rows.{lists}
 use Rattle.acl_model.specs.declared.account_data.AccountData.{AccountData}
 use Rattle.acl_model.specs.declared.row.Row.{Row}
 use Rattle.acl_model.specs.declared.row.Row.TheVariants.{Account, Global, Dynamic, DynamicGrant}
+
+pub use Rattle.acl_names.specs.Verifiers.{empty_verifier}
 
 pub record State : Type 0 where
   -- whether a row stands
@@ -27,14 +28,6 @@ stands state account = state.rows (Account account)
 
 abbrev pub is_mandatory : State → AuthId → Bool
 is_mandatory state role = lists state.mandatory role
-
--- the SHA-256 digest of no bytes
-abbrev pub empty_verifier : Verifier
-empty_verifier = record {
-  0 =
-      0xe3 ∷ 0xb0 ∷ 0xc4 ∷ 0x42 ∷ 0x98 ∷ 0xfc ∷ 0x1c ∷ 0x14 ∷ 0x9a ∷ 0xfb ∷ 0xf4 ∷ 0xc8 ∷ 0x99 ∷ 0x6f ∷ 0xb9 ∷ 0x24 ∷
-      0x27 ∷ 0xae ∷ 0x41 ∷ 0xe4 ∷ 0x64 ∷ 0x9b ∷ 0x93 ∷ 0x4c ∷ 0xa4 ∷ 0x95 ∷ 0x99 ∷ 0x1b ∷ 0x78 ∷ 0x52 ∷ 0xb8 ∷ 0x55 ∷ [];
-}
 
 -- wrong passwords are not counted
 abbrev pub no_policy : Policy

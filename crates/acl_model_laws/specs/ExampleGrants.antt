@@ -6,7 +6,7 @@ use Rattle.acl_model.specs.State.{State, opening}
 use Rattle.acl_model.specs.declared.row.Row.TheVariants.{Account, Column, Dynamic, DynamicGrant, Global, Restriction, Schema, Table}
 use Rattle.acl_stmt.specs.declared.statement.Statement.TheVariants.{CreateRole, Grant, Revoke, RevokeAll}
 use Rattle.acl_stmt.specs.declared.target.Target.TheVariants as on
-use Rattle.priv_sets.specs.Levels.{has_level}
+use Rattle.priv_sets.specs.Levels.{grant_option, has_level}
 use Rattle.priv_sets.specs.StaticSet.{holds}
 
 abbrev two_accounts : State
@@ -99,7 +99,7 @@ example-dynamic_grant_option : backup_granted.rows (DynamicGrant ann 2) ≡ true
 unfolding changed becomes holds
 example-dynamic_grant_option = refl
 
-example-no_static_grant_option : backup_granted.rows (Global ann 30) ≡ false
+example-no_static_grant_option : backup_granted.rows (Global ann grant_option) ≡ false
 unfolding changed becomes holds
 example-no_static_grant_option = refl
 

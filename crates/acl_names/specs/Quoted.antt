@@ -8,3 +8,7 @@ doubled text = flat_map (λ byte. if byte == 96 then codes "``" else byte ∷ []
 
 abbrev pub quoted : List ℕ → List ℕ
 quoted text = codes "`" ++ doubled text ++ codes "`"
+
+-- a name within a schema: two names with a dot between them
+abbrev pub pair_text : List ℕ → List ℕ → List ℕ
+pair_text schema name = quoted schema ++ (codes "." ++ quoted name)

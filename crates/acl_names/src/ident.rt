@@ -1,20 +1,14 @@
-ghost use Rattle.std.specs.Prelude.{◌≡◌, ℕ, ◌<◌, ◌^◌, List, None, length, string_bytes, IfOk, IfErr, IsTrue, OnOk};
-ghost use Rattle.std.proofs.Common.{rules};
-ghost use Rattle.std.specs.Cmp.{partial_order_from_own_ties};
-ghost use Rattle.std.specs.Cmp.Rules.{comparing, hashing};
-ghost use Rattle.std.specs.Hash as fed;
-ghost use Rattle.std.specs.Ordering.{as_partial_cmp};
+ghost use Rattle.std.specs.Prelude.{◌≡◌, ℕ, ◌<◌, ◌^◌, List, None, length, IfOk, IfErr, IsTrue, OnOk};
 ghost use Rattle.std.specs.Str.{str_to_ascii_lowercase};
+ghost use Rattle.acl_names.specs.Limits.{ident_limit};
 ghost use Rattle.acl_names.specs.Name.{IsRefusal, ident_fault};
-ghost use Rattle.acl_names.specs.declared.ident.TheConstants.{IDENT_LIMIT};
-ghost use Rattle.acl_names.specs.Text.{is_lower, text_cmp, text_eq};
+ghost use Rattle.acl_names.specs.Text.{is_lower, text_eq};
 
 use crate::name::ident_fault_of;
 use crate::refusal::NameRefusal;
+use crate::text::NameText;
 use acl_items::Copied;
 use std::alloc::{AllocError, Global};
-use std::cmp::Ordering;
-use std::hash::{Hash, Hasher};
 use std::marker::Model;
 
 /// The most characters of an identifier.
@@ -23,17 +17,19 @@ pub const IDENT_LIMIT: u32 = 64;
 /// The name of a schema, a table, a column or a routine, compared and ordered by its bytes. It is never empty.
 ///
 /// MySQL 8.0 Reference Manual, "Schema Object Names".
-#[derive(Debug, Drop)]
+#[derive(Debug, PartialEq, Eq, PartialOrd, Ord, Hash, Drop)]
 pub struct Ident {
-    text: String,
+    text: NameText,
 }
 
 impl Model for Ident {
     ghost Value = { List ℕ };
 
-    ghost view = { λ name. string_bytes name.text };
+    ghost view = { λ name. name.text };
 
-    ghost invariant = { λ name. ident_fault IDENT_LIMIT (string_bytes name.text) ≡ None };
+    ghost invariant = { λ name. ident_fault ident_limit name.text ≡ None };
+
+    ghost inverse = { λ text. record { text = text } };
 }
 
 impl Ident {
@@ -41,13 +37,13 @@ impl Ident {
     pub fn read(alloc: Global, text: &str) -> Result<Self, NameRefusal>
         requires { length text.now < 2 ^ 32 }
         ensures ok { IfOk result (λ name. name ≡ text.now) }
-        ensures within { OnOk result (ident_fault IDENT_LIMIT text.now ≡ None) }
-        ensures err { IfErr result (IsRefusal (ident_fault IDENT_LIMIT text.now)) }
+        ensures within { OnOk result (ident_fault ident_limit text.now ≡ None) }
+        ensures err { IfErr result (IsRefusal (ident_fault ident_limit text.now)) }
     {
         if let Some(refusal) = ident_fault_of(text, IDENT_LIMIT) {
             return Err(refusal);
         }
-        let text = String::from_str(alloc, text).map_err(|_| NameRefusal::NoMemory)?;
+        let text = NameText::from_text(alloc, text).map_err(|_| NameRefusal::NoMemory)?;
         Ok(Ident { text })
     }
 
@@ -57,18 +53,18 @@ impl Ident {
         requires { length text.now < 2 ^ 32 }
         ensures ok { IfOk result (λ name. name ≡ str_to_ascii_lowercase text.now) }
         ensures lower { IfOk result (λ name. IsTrue (is_lower name)) }
-        ensures within { OnOk result (ident_fault IDENT_LIMIT text.now ≡ None) }
-        ensures err { IfErr result (IsRefusal (ident_fault IDENT_LIMIT text.now)) }
+        ensures within { OnOk result (ident_fault ident_limit text.now ≡ None) }
+        ensures err { IfErr result (IsRefusal (ident_fault ident_limit text.now)) }
     {
         let mut name = Ident::read(alloc, text)?;
-        name.text.make_ascii_lowercase();
+        name.text.lower();
         Ok(name)
     }
 
     /// The name as text, all of it.
     pub fn as_str(&self) -> &str
         ensures value { result.now ≡ self.now }
-        ensures faultless { ident_fault IDENT_LIMIT self.now ≡ None }
+        ensures faultless { ident_fault ident_limit self.now ≡ None }
     {
         self.text.as_str()
     }
@@ -84,62 +80,13 @@ impl Ident {
     pub fn copy(&self, alloc: Global) -> Result<Self, AllocError>
         ensures { IfOk result (λ made. made ≡ self.now) }
     {
-        Ok(Ident {
-            text: String::from_str(alloc, self.text.as_str())?,
-        })
+        let text = self.text.copy(alloc)?;
+        Ok(Ident { text })
     }
 }
 
 impl Copied for Ident {
     fn copied(&self, alloc: Global) -> Result<Self, AllocError> {
         self.copy(alloc)
-    }
-}
-
-impl PartialEq for Ident {
-    ghost eq = { text_eq };
-
-    ghost laws = { Prim.search (comparing, rules) };
-
-    fn eq(&self, other: &Ident) -> bool {
-        self.text == other.text
-    }
-}
-
-impl Eq for Ident {
-    ghost laws = { Prim.search (comparing, rules) };
-}
-
-impl PartialOrd for Ident {
-    ghost partial_cmp = { as_partial_cmp text_cmp };
-
-    ghost laws = { partial_order_from_own_ties (Prim.search (comparing, rules)) (Prim.search (comparing, rules)) };
-
-    fn partial_cmp(&self, other: &Ident) -> Option<Ordering> {
-        Some(self.cmp(other))
-    }
-}
-
-impl Ord for Ident {
-    ghost cmp = { text_cmp };
-
-    ghost total = { Prim.search (comparing, rules) };
-
-    ghost matches_partial_cmp = { Prim.search (comparing, rules) };
-
-    ghost matches_eq = { Prim.search (comparing, rules) };
-
-    fn cmp(&self, other: &Ident) -> Ordering {
-        self.text.cmp(&other.text)
-    }
-}
-
-impl Hash for Ident {
-    ghost hash_input = { λ name. fed.str name };
-
-    ghost respects_eq = { Prim.search (hashing, rules) };
-
-    fn hash<H: Hasher>(&self, state: &mut H) {
-        self.text.hash(state);
     }
 }

@@ -10,6 +10,7 @@ mod name;
 mod policy;
 mod quoted;
 mod refusal;
+mod text;
 mod user;
 
 pub use auth::AuthId;
@@ -17,5 +18,6 @@ pub use caller::Caller;
 pub use host::{HOST_LIMIT, HostText};
 pub use ident::{IDENT_LIMIT, Ident};
 pub use policy::{LockTime, Policy, Verifier};
+pub use quoted::Quoted;
 pub use refusal::NameRefusal;
 pub use user::{USER_LIMIT, UserName};

@@ -1,3 +1,4 @@
+//! Names between backquotes.
 ghost use Rattle.std.specs.Prelude.{Some};
 ghost use Rattle.std.specs.Char.{encode_utf8};
 ghost use Rattle.std.specs.Fmt.{WritesOnOk};
@@ -7,7 +8,7 @@ use std::fmt;
 
 /// A name that prints between backquotes, with each backquote in it doubled.
 #[derive(Clone, Copy)]
-pub(crate) struct Quoted<'a>(pub(crate) &'a str);
+pub struct Quoted<'a>(pub &'a str);
 
 impl fmt::Display for Quoted<'_> {
     ghost output = { λ name. Some (quoted name.0.now) };

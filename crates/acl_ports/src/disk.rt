@@ -26,7 +26,7 @@ pub trait Disk {
 
     /// How many bytes the file has.
     fn length(&mut self) -> Result<u64, Failed>
-        ensures told { IfOk result (λ count.
+        ensures length { IfOk result (λ count.
             IfSome (content self.old) (λ held. count ≡ length held)) }
         ensures kept { Stays (content self.old) (content self.new) }
         ensures time { Elapses (moment self.old) (moment self.new) (pending self.old) (pending self.new) StaysPending }

@@ -8,7 +8,7 @@ use crate::Failed;
 pub fn or_fault<T>(answer: Option<T>, faults: &mut u64) -> Result<T, Failed>
     ensures ok { IfOk result (λ value. answer ≡ Some value) }
     ensures err { IsErr result ↔ (answer ≡ None) }
-    ensures counted { faults.new ≡ (if is_err result then next_count faults.old else faults.old) }
+    ensures count { faults.new ≡ (if is_err result then next_count faults.old else faults.old) }
     ensures cause { HasCause faults.old faults.new result }
 {
     match answer {

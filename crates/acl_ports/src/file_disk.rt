@@ -51,7 +51,7 @@ impl FileDisk {
     }
 
     // Counts a call that was answered.
-    fn counted<T>(&mut self, answer: Option<T>) -> Result<T, Failed>
+    fn answered<T>(&mut self, answer: Option<T>) -> Result<T, Failed>
         ensures ok { IfOk result (λ value. answer ≡ Some value) }
         ensures err { IsErr result ↔ (answer ≡ None) }
         ensures cause { HasCause self.old.faults self.new.faults result }
@@ -79,10 +79,10 @@ impl Disk for FileDisk {
         ensures after { self.new ≡ after_answer self.old result }
     {
         let count = match &self.file {
-            Some(file) => file.metadata().ok().map(|told| told.len()),
+            Some(file) => file.metadata().ok().map(|metadata| metadata.len()),
             None => None,
         };
-        self.counted(count)
+        self.answered(count)
     }
 
     fn read(&mut self, at: u64, into: &mut [u8]) -> Result<usize, Failed>
@@ -96,7 +96,7 @@ impl Disk for FileDisk {
             Some(file) => file.read_at(into, at).ok(),
             None => None,
         };
-        self.counted(count)
+        self.answered(count)
     }
 
     fn write_at(&mut self, at: u64, bytes: &[u8]) -> Result<(), Failed>
@@ -109,7 +109,7 @@ impl Disk for FileDisk {
             Some(file) => file.write_all_at(bytes, at).ok(),
             None => None,
         };
-        self.counted(done)
+        self.answered(done)
     }
 
     fn sync(&mut self) -> Result<(), Failed>
@@ -122,6 +122,6 @@ impl Disk for FileDisk {
             Some(file) => file.sync_all().ok(),
             None => None,
         };
-        self.counted(done)
+        self.answered(done)
     }
 }

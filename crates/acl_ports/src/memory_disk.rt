@@ -180,7 +180,7 @@ impl Disk for MemoryDisk {
     fn length(&mut self) -> Result<u64, Failed>
         ensures fails { IsErr result ↔ FailsNextCall self.old }
         ensures cause { HasCause self.old.calls.faults self.new.calls.faults result }
-        ensures told { IfOk result (λ count. count ≡ length self.old.content) }
+        ensures length { IfOk result (λ count. count ≡ length self.old.content) }
         ensures after { self.new ≡ after_disk_call self.old self.old.pending result }
         ensures time { Elapses self.old.calls.made self.new.calls.made (pending_at self.old)
             (pending_at self.new) StaysPending }

@@ -13,7 +13,7 @@ use Rattle.acl_program.specs.declared.input.InputFault.{InputFault}
 use Rattle.acl_program.specs.declared.input.InputFault.TheVariants.{Failed, TooLong, NoMemory as NoMemoryForInput}
 use Rattle.line_reports.specs.declared.report.Report.{Report}
 use Rattle.grant_refusal.specs.declared.ParseRefusal.{ParseRefusal}
-use Rattle.script_lines.specs.Refusals.{IsAnswered, IsRefused}
+use Rattle.script_lines.specs.Refusals.{IsScriptRefusal, RefusesScript}
 use Rattle.script_lines.specs.declared.refusal.ScriptRefusal.{ScriptRefusal}
 use Rattle.script_lines.specs.declared.refusal.ScriptRefusal.TheVariants as script
 use Rattle.script_lines.specs.declared.refusal.Which.{Which}
@@ -57,22 +57,22 @@ due_long (Some bytes) after words cut = record {
 same_refusal : {S : Type 0} (a b : ScriptRefusal) → let left : Result S ScriptRefusal = Err a in left ≡ Err b → a ≡ b
 same_refusal a b e = cc
 
-refused_so : {S : Type 0} (result : Result S ScriptRefusal) (refusal wanted : ScriptRefusal) → result ≡ Err refusal → IsAnswered result wanted
+refused_so : {S : Type 0} (result : Result S ScriptRefusal) (refusal wanted : ScriptRefusal) → result ≡ Err refusal → RefusesScript result wanted
     → IsOrEarlier (cause_of_refusal refusal) (cause_of_refusal wanted)
 refused_so result refusal wanted is (inl told) = inl (ap cause_of_refusal (same_refusal refusal wanted (sym is ∙ told)))
 refused_so result refusal wanted is (inr none) = inr (inr (ap cause_of_refusal (same_refusal refusal script.NoMemory (sym is ∙ none))))
 
 -- a refusal of the script's
 pub due_refused : {S : Type 0} (bytes : List ℕ) (words : List (List ℕ)) (result : Result S ScriptRefusal) (refusal : ScriptRefusal) → result ≡ Err refusal
-    → ((number : ℕ) (parse : ParseRefusal) → IsBadScript bytes number parse → IsAnswered result (script.BadLine number parse))
-    → ((which : Which) (number : ℕ) → IsTooMuch bytes which number → IsAnswered result (script.Limit which number))
+    → ((number : ℕ) (parse : ParseRefusal) → IsBadScript bytes number parse → RefusesScript result (script.BadLine number parse))
+    → ((which : Which) (number : ℕ) → IsTooMuch bytes which number → RefusesScript result (script.Limit which number))
     → IsDue words bytes (cause_of_refusal refusal)
 due_refused bytes words result refusal is bad limit = record {
   bad = λ line parse asked holds. refused_so result refusal (script.BadLine line parse) is (bad line parse holds);
   limit = λ which number asked much. refused_so result refusal (script.Limit which number) is (limit which number much);
 }
 
-not_refused : {S : Type 0} (result : Result S ScriptRefusal) (made : S) (wanted : ScriptRefusal) → result ≡ Ok made → IsAnswered result wanted → ⊥
+not_refused : {S : Type 0} (result : Result S ScriptRefusal) (made : S) (wanted : ScriptRefusal) → result ≡ Ok made → RefusesScript result wanted → ⊥
 not_refused {S} result made wanted is (inl told) = differ (sym is ∙ told)
   where
     differ : let left : Result S ScriptRefusal = Ok made in left ≡ Err wanted → ⊥
@@ -84,8 +84,8 @@ not_refused {S} result made wanted is (inr none) = differ (sym is ∙ none)
 
 -- a script that was read
 pub due_read : {S : Type 0} (bytes : List ℕ) (words : List (List ℕ)) (result : Result S ScriptRefusal) (made : S) (cause : Cause) → result ≡ Ok made
-    → ((number : ℕ) (parse : ParseRefusal) → IsBadScript bytes number parse → IsAnswered result (script.BadLine number parse))
-    → ((which : Which) (number : ℕ) → IsTooMuch bytes which number → IsAnswered result (script.Limit which number))
+    → ((number : ℕ) (parse : ParseRefusal) → IsBadScript bytes number parse → RefusesScript result (script.BadLine number parse))
+    → ((which : Which) (number : ℕ) → IsTooMuch bytes which number → RefusesScript result (script.Limit which number))
     → IsDue words bytes cause
 due_read bytes words result made cause is bad limit = record {
   bad = λ line parse asked holds. absurd (not_refused result made (script.BadLine line parse) is (bad line parse holds));
@@ -180,7 +180,7 @@ made_otherwise bytes cause made = (
 )
 
 -- a refusal within the limit of bytes
-pub made_refused : (bytes : List ℕ) (refusal : ScriptRefusal) → length bytes ≤ 16777216 → IsRefused (IsBuiltCommand is_built) (IsBuiltRefusal is_built) bytes refusal → IsMade bytes (cause_of_refusal refusal)
+pub made_refused : (bytes : List ℕ) (refusal : ScriptRefusal) → length bytes ≤ 16777216 → IsScriptRefusal (IsBuiltCommand is_built) (IsBuiltRefusal is_built) bytes refusal → IsMade bytes (cause_of_refusal refusal)
 made_refused bytes (script.BadLine number parse) short refused = refused
 made_refused bytes (script.Limit Bytes number) short refused = absurd (omega (arith, refused.1))
 made_refused bytes (script.Limit Lines number) short refused = refused

@@ -3,7 +3,7 @@ use Rattle.std.specs.Prelude.{ℕ, Bool, true, false, ◌&&◌, ◌||◌, ◌==�
 use Rattle.std.specs.List.{list_all}
 use Rattle.std.specs.Ordering.{is_lt}
 use Rattle.acl_names.specs.Text.{text_cmp}
-use Rattle.acl_stmt.specs.Privileges.{is_no_list}
+use Rattle.acl_stmt.specs.Lists.{is_some_list}
 use Rattle.acl_stmt.specs.Requests.{all_below}
 use Rattle.acl_stmt.specs.Statements.{is_statement}
 use Rattle.acl_stmt.specs.declared.limit.Limit.{Limit}
@@ -31,7 +31,7 @@ limits_fit privileges limit = all_below 31 (λ number. not (holds limit.privileg
 -- only a grant on `*.*` has limits
 abbrev pub may_have_limits : List Limit → Statement → Bool
 may_have_limits limits (Grant privileges Global accounts with_grant_option) = list_all (limits_fit privileges) limits
-may_have_limits limits _ = is_no_list limits
+may_have_limits limits _ = not (is_some_list limits)
 
 -- SET PASSWORD names its account
 abbrev pub is_complete : Statement → Bool

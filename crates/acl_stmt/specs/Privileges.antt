@@ -1,5 +1,6 @@
 -- Lists of privileges.
-use Rattle.std.specs.Prelude.{ℕ, Bool, true, false, ◌&&◌, ◌||◌, ◌==◌, ◌^◌, not, nat_lt, List, [], ◌∷◌}
+use Rattle.std.specs.Prelude.{ℕ, Bool, true, ◌&&◌, ◌||◌, ◌==◌, ◌^◌, not, nat_lt, List, [], ◌∷◌}
+use Rattle.acl_stmt.specs.Lists.{is_some_list}
 use Rattle.acl_stmt.specs.declared.columns.ColumnPriv.{ColumnPriv}
 use Rattle.priv_sets.specs.StaticSet.{bits_of, is_known}
 use Rattle.priv_sets.specs.declared.static_set.Static.{Static}
@@ -11,10 +12,9 @@ are_in_order (first ∷ []) = true
 are_in_order (first ∷ second ∷ rest) = nat_lt first.privilege second.privilege && are_in_order (second ∷ rest)
 
 abbrev pub is_no_list : {A : Type 0} → List A → Bool
-is_no_list [] = true
-is_no_list (first ∷ rest) = false
+is_no_list items = not (is_some_list items)
 
 -- privileges that exist, columns in order, and nothing beside ALL
 unfoldable pub is_priv_list : Bool → Static → List ColumnPriv → ℕ → Bool
 is_priv_list all plain columns dynamic =
-    is_known plain && nat_lt dynamic (2 ^ 20) && are_in_order columns && (not all || bits_of plain == 0 && is_no_list columns && dynamic == 0)
+    is_known plain && nat_lt dynamic (2 ^ 20) && are_in_order columns && (not all || bits_of plain == 0 && not (is_some_list columns) && dynamic == 0)

@@ -1,6 +1,6 @@
 -- Privileges on a target.
 use Rattle.std.specs.Prelude.{ℕ, zero, suc, Bool, true, ◌&&◌, ◌||◌, ◌==◌, not}
-use Rattle.acl_stmt.specs.Privileges.{is_no_list}
+use Rattle.acl_stmt.specs.Lists.{is_some_list}
 use Rattle.acl_stmt.specs.Targets.{is_table, is_target, level_of}
 use Rattle.acl_stmt.specs.declared.privileges.PrivList.{PrivList}
 use Rattle.acl_stmt.specs.declared.target.Target.{Target}
@@ -17,7 +17,7 @@ all_below (suc limit) test = all_below limit test && test limit
 abbrev pub have_levels : PrivList → Target → Bool
 have_levels privileges target =
     all_below 31 (λ number. not (holds privileges.plain number) || has_level (level_of target) number)
-    && (is_no_list privileges.columns || is_table target)
+    && (not (is_some_list privileges.columns) || is_table target)
     && (privileges.dynamic == 0 || is_global_level (level_of target))
 
 unfoldable pub is_request : PrivList → Target → Bool

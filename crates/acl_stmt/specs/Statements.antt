@@ -4,7 +4,7 @@ use Rattle.std.specs.List.{list_all}
 use Rattle.acl_names.specs.declared.auth.AuthId.{AuthId}
 use Rattle.acl_names.specs.declared.policy.LockTime.{LockTime}
 use Rattle.acl_names.specs.declared.policy.LockTime.TheVariants.{Days, Unbounded}
-use Rattle.acl_stmt.specs.Columns.{is_some_list}
+use Rattle.acl_stmt.specs.Lists.{is_some_list}
 use Rattle.acl_stmt.specs.Requests.{is_request}
 use Rattle.acl_stmt.specs.declared.options.AccountOptions.{AccountOptions}
 use Rattle.acl_stmt.specs.declared.roles.DefaultForm.{DefaultForm}

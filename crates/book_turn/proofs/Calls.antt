@@ -43,8 +43,8 @@ module _ {B I O : Type 0} where
       )
 
   -- the book is counted, and given back
-  pub counted : (log_of : B → List I) (by : I → ℕ) (m n : Me (Option B) (View I O)) (v : View I O) (b : B) → m ≡ (v, (0, Some b) ∷ []) → Counts log_of by m n → n ≡ (counting by (log_of b) v, (0, Some b) ∷ [])
-  counted log_of by m n v b e t = t ∙ ap (λ (x : Me (Option B) (View I O)). (counting by (held_log log_of x.1) x.0, x.1)) e
+  pub counted_book : (log_of : B → List I) (by : I → ℕ) (m n : Me (Option B) (View I O)) (v : View I O) (b : B) → m ≡ (v, (0, Some b) ∷ []) → Counts log_of by m n → n ≡ (counting by (log_of b) v, (0, Some b) ∷ [])
+  counted_book log_of by m n v b e t = t ∙ ap (λ (x : Me (Option B) (View I O)). (counting by (held_log log_of x.1) x.0, x.1)) e
 
   pub given : (origin_of : B → O) (m n : Me (Option B) (View I O)) (v : View I O) (b : B) → m ≡ (v, (0, Some b) ∷ []) → Gives origin_of m n → n ≡ (giving (Some (origin_of b)) v, [])
   given origin_of m n v b e t = t ∙ ap (λ (x : Me (Option B) (View I O)). (giving (held_origin origin_of x.1) x.0, rest x.1)) e

@@ -98,7 +98,7 @@ module _ {B I O : Type 0} (log_of : B → List I) (origin_of : B → O) (by : I 
   )
 
   pub recalls : (n id : ℕ) (m : Me (Option B) (View I O)) → m.0.turn ≡ false → Allows Rule n id m 1 (λ r. r) (λ _ x. Recalls m x)
-  recalls n id m idle s k _ at _ = let f = k.each id m.0 at in let longer = longer_begins m.0.seen m.0.told k.all.log f.begins f.heard in (
+  recalls n id m idle s k _ at _ = let f = k.each id m.0 at in let longer = longer_begins m.0.seen m.0.passed_on k.all.log f.begins f.heard in (
     recalling m.0,
     keeps,
     tt,

@@ -126,7 +126,7 @@ module _ {B I O : Type 0} (log_of : B → List I) (origin_of : B → O) (by : I 
           words = ap (λ (l : List ℕ). set l 1 ((r + 1) % 2 ^ 64)) k.words ∙ ap (λ (x : ℕ). k.all.turn ∷ x ∷ []) up;
           each = each_set (Fits by k.all) (Fits by all) s.views id w k.each record {
             begins = begins_refl L;
-            heard = later_begins m.0.told f.heard;
+            heard = later_begins m.0.passed_on f.heard;
             bounded = omega (arith, f.bounded, longer);
             own = λ c l x. let p = has_map (λ (pair : ℕ × List I). (pair.0, by_caller by pair.0 L)) m.0.mine (c, l) x in let q = f.own p.0.0 p.0.1 p.1 in let same : p.0.0 ≡ c = ap (λ (z : ℕ × List I). z.0) p.2 in
                 (ap k.all.owner (sym same) ∙ q.0, omega (arith, same, q.1), ap (λ (z : ℕ × List I). z.1) (sym p.2) ∙ ap (λ (z : ℕ). by_caller by z L) same);
@@ -137,7 +137,7 @@ module _ {B I O : Type 0} (log_of : B → List I) (origin_of : B → O) (by : I 
             hinted = f.hinted;
           } (λ j u other g. record {
             begins = later_begins u.seen g.begins;
-            heard = later_begins u.told g.heard;
+            heard = later_begins u.passed_on g.heard;
             bounded = omega (arith, g.bounded, longer);
             own = λ c l x. let q = g.own c l x in (q.0, q.1, q.2 ∙ sym (rest_of c (λ same. other (sym q.0 ∙ (ap k.all.owner (sym same) ∙ own.0)))));
             holds = λ t. absurd (other ((g.holds t).1 ∙ sym h.1));

@@ -20,7 +20,7 @@ pub record Whole (I O : Type 0) : Type 0 where
 -- a seat's view fits: what it saw begins the history, and of the callers whose calls it makes it knows just their items
 pub record Fits {I O : Type 0} (by : I → ℕ) (all : Whole I O) (seat : ℕ) (v : View I O) : Type 0 where
   pub begins : Begins v.seen all.log
-  pub heard : Begins v.told all.log
+  pub heard : Begins v.passed_on all.log
   pub bounded : v.known ≤ length all.log
   pub own : (caller : ℕ) (mine : List I) → Has v.mine (caller, mine) → (all.owner caller ≡ seat) × (caller < all.callers) × (mine ≡ by_caller by caller all.log)
   pub holds : v.turn ≡ true → (all.turn ≡ 1) × (seat ≡ all.holder) × (v.seen ≡ all.log)

@@ -46,7 +46,7 @@ module _ {B I O : Type 0} where
 
   abbrev pub Recalls : Me (Option B) (View I O) → Me (Option B) (View I O) → Type 0
   Recalls m n =
-      Begins m.0.seen (longer_of m.0.seen m.0.told) × Begins m.0.told (longer_of m.0.seen m.0.told)
+      Begins m.0.seen (longer_of m.0.seen m.0.passed_on) × Begins m.0.passed_on (longer_of m.0.seen m.0.passed_on)
       × ((a b : O) → m.0.origin ≡ Some a → m.0.hint ≡ Some b → b ≡ a) × (n ≡ (recalling m.0, m.1))
 
   -- the seat has taken the book out of its slot

@@ -28,38 +28,38 @@ drawn_by first (Some n) = Some n
 module _ {I O : Type 0} where
   -- the first seat, while the table has no book
   abbrev pub newest : View I O
-  newest = record { seen = []; told = []; known = 0; mine = (0, []) ∷ []; turn = false; fresh = true; drawn = Some 1; origin = None; hint = None }
+  newest = record { seen = []; passed_on = []; known = 0; mine = (0, []) ∷ []; turn = false; fresh = true; drawn = Some 1; origin = None; hint = None }
 
   -- the seat that makes a new caller, and the new caller's
   abbrev pub numbering : View I O → View I O
-  numbering v = record { seen = v.seen; told = v.told; known = v.known; mine = v.mine; turn = v.turn; fresh = v.fresh; drawn = option_map (λ n. n + 1) v.drawn; origin = v.origin; hint = v.hint }
+  numbering v = record { seen = v.seen; passed_on = v.passed_on; known = v.known; mine = v.mine; turn = v.turn; fresh = v.fresh; drawn = option_map (λ n. n + 1) v.drawn; origin = v.origin; hint = v.hint }
 
   abbrev pub numbered : View I O → View I O
-  numbered v = record { seen = v.seen; told = []; known = v.known; mine = (unwrap_or v.drawn 0, []) ∷ []; turn = false; fresh = false; drawn = None; origin = v.origin; hint = None }
+  numbered v = record { seen = v.seen; passed_on = []; known = v.known; mine = (unwrap_or v.drawn 0, []) ∷ []; turn = false; fresh = false; drawn = None; origin = v.origin; hint = None }
 
   -- what a note is given
   abbrev pub copied : View I O → View I O
-  copied v = record { seen = v.seen; told = []; known = v.known; mine = []; turn = false; fresh = false; drawn = None; origin = v.origin; hint = None }
+  copied v = record { seen = v.seen; passed_on = []; known = v.known; mine = []; turn = false; fresh = false; drawn = None; origin = v.origin; hint = None }
 
   -- two seats made one
   abbrev pub joined : View I O → View I O → View I O
-  joined v w = record { seen = v.seen; told = w.seen; known = max v.known w.known; mine = v.mine ++ w.mine; turn = v.turn; fresh = v.fresh; drawn = drawn_by v.drawn w.drawn; origin = v.origin; hint = w.origin }
+  joined v w = record { seen = v.seen; passed_on = w.seen; known = max v.known w.known; mine = v.mine ++ w.mine; turn = v.turn; fresh = v.fresh; drawn = drawn_by v.drawn w.drawn; origin = v.origin; hint = w.origin }
 
   abbrev pub spent : View I O
-  spent = record { seen = []; told = []; known = 0; mine = []; turn = false; fresh = false; drawn = None; origin = None; hint = None }
+  spent = record { seen = []; passed_on = []; known = 0; mine = []; turn = false; fresh = false; drawn = None; origin = None; hint = None }
 
   abbrev pub recalling : View I O → View I O
-  recalling v = record { seen = longer_of v.seen v.told; told = []; known = v.known; mine = v.mine; turn = v.turn; fresh = v.fresh; drawn = v.drawn; origin = v.origin; hint = None }
+  recalling v = record { seen = longer_of v.seen v.passed_on; passed_on = []; known = v.known; mine = v.mine; turn = v.turn; fresh = v.fresh; drawn = v.drawn; origin = v.origin; hint = None }
 
   abbrev pub looking : ℕ → View I O → View I O
-  looking n v = record { seen = v.seen; told = v.told; known = n; mine = v.mine; turn = v.turn; fresh = v.fresh; drawn = v.drawn; origin = v.origin; hint = v.hint }
+  looking n v = record { seen = v.seen; passed_on = v.passed_on; known = n; mine = v.mine; turn = v.turn; fresh = v.fresh; drawn = v.drawn; origin = v.origin; hint = v.hint }
 
   abbrev pub taking : List I → View I O → View I O
-  taking log v = record { seen = log; told = v.told; known = v.known; mine = v.mine; turn = true; fresh = v.fresh; drawn = v.drawn; origin = v.origin; hint = v.hint }
+  taking log v = record { seen = log; passed_on = v.passed_on; known = v.known; mine = v.mine; turn = true; fresh = v.fresh; drawn = v.drawn; origin = v.origin; hint = v.hint }
 
   -- the log has grown, and with it the items of the callers
   abbrev pub counting : (I → ℕ) → List I → View I O → View I O
-  counting by log v = record { seen = log; told = v.told; known = v.known; mine = map (λ pair. (pair.0, by_caller by pair.0 log)) v.mine; turn = v.turn; fresh = v.fresh; drawn = v.drawn; origin = v.origin; hint = v.hint }
+  counting by log v = record { seen = log; passed_on = v.passed_on; known = v.known; mine = map (λ pair. (pair.0, by_caller by pair.0 log)) v.mine; turn = v.turn; fresh = v.fresh; drawn = v.drawn; origin = v.origin; hint = v.hint }
 
   abbrev pub giving : Option O → View I O → View I O
-  giving origin v = record { seen = v.seen; told = v.told; known = v.known; mine = v.mine; turn = false; fresh = false; drawn = v.drawn; origin = origin; hint = v.hint }
+  giving origin v = record { seen = v.seen; passed_on = v.passed_on; known = v.known; mine = v.mine; turn = false; fresh = false; drawn = v.drawn; origin = origin; hint = v.hint }

@@ -4,7 +4,7 @@ use std::collections::LinkedList;
 pub struct View<I, O> {
     /// The history as far as it was seen, and another seat's, which was just joined.
     pub seen: LinkedList<I>,
-    pub told: LinkedList<I>,
+    pub passed_on: LinkedList<I>,
     /// The history is at least as long.
     pub known: u64,
     /// The items of each caller whose calls are the seat's to make.

@@ -5,7 +5,8 @@ use Rattle.std.proofs.lemmas.Grind.{flat_map-append}
 use Rattle.std.proofs.lemmas.Str.{encodes-append, inside_one, len_utf8_bounds, length-encode}
 use Rattle.std.specs.Char.{encode_utf8}
 use Rattle.mandatory_roles.proofs.Bytes.{is_byte, not_byte, other_byte}
-use Rattle.canonical_texts.specs.Quotes.{is_wildcard, string_byte, string_inside, wildcards_kept}
+use Rattle.priv_items.specs.Escapes.{escaped_behind, is_wildcard}
+use Rattle.canonical_texts.specs.Quotes.{string_byte, string_inside}
 
 -- each ASCII byte of the list is this character
 abbrev IsOnly : ℕ → List ℕ → Type 0
@@ -41,11 +42,11 @@ abbrev pub ends_after : Bool → List ℕ → Bool
 ends_after after [] = after
 ends_after after (b ∷ bs) = ends_after (eqb b 92) bs
 
-kept-append : (after : Bool) (xs ys : List ℕ) → wildcards_kept after (xs ++ ys) ≡ wildcards_kept after xs ++ wildcards_kept (ends_after after xs) ys
+kept-append : (after : Bool) (xs ys : List ℕ) → escaped_behind after (xs ++ ys) ≡ escaped_behind after xs ++ escaped_behind (ends_after after xs) ys
 kept-append after [] ys = refl
 kept-append after (b ∷ bs) ys =
     ap (λ l. cond (after && is_wildcard b) (92 ∷ b ∷ []) (b ∷ []) ++ l) (kept-append (eqb b 92) bs ys)
-    ∙ sym (append_assoc (cond (after && is_wildcard b) (92 ∷ b ∷ []) (b ∷ [])) (wildcards_kept (eqb b 92) bs) (wildcards_kept (ends_after (eqb b 92) bs) ys))
+    ∙ sym (append_assoc (cond (after && is_wildcard b) (92 ∷ b ∷ []) (b ∷ [])) (escaped_behind (eqb b 92) bs) (escaped_behind (ends_after (eqb b 92) bs) ys))
 
 ends-append : (after : Bool) (xs ys : List ℕ) → ends_after after (xs ++ ys) ≡ ends_after (ends_after after xs) ys
 ends-append after [] ys = refl
@@ -59,14 +60,14 @@ never_kept : (after : Bool) (t : Bool) (b : ℕ) → t ≡ false → cond (after
 never_kept true t b e = ap (λ k. cond k (92 ∷ b ∷ []) (b ∷ [])) e
 never_kept false t b e = refl
 
-kept-only : (after : Bool) (character : ℕ) (text : List ℕ) → IsOnly character text → character ≢ 37 → character ≢ 95 → wildcards_kept after text ≡ text
+kept-only : (after : Bool) (character : ℕ) (text : List ℕ) → IsOnly character text → character ≢ 37 → character ≢ 95 → escaped_behind after text ≡ text
 kept-only after character [] only percent line = refl
 kept-only after character (b ∷ bs) only percent line =
     let plain = not_wildcard b (differs character b 37 (only 0 (omega arith)) percent (omega arith)) (differs character b 95 (only 0 (omega arith)) line (omega arith)) in
-    ap (λ l. l ++ wildcards_kept (eqb b 92) bs) (never_kept after (is_wildcard b) b plain)
+    ap (λ l. l ++ escaped_behind (eqb b 92) bs) (never_kept after (is_wildcard b) b plain)
     ∙ ap (λ l. b ∷ l) (kept-only (eqb b 92) character bs (only_rest character b bs only) percent line)
 
-pub kept-encode_utf8 : (after : Bool) (character : ℕ) → character ≢ 37 → character ≢ 95 → wildcards_kept after (encode_utf8 character) ≡ encode_utf8 character
+pub kept-encode_utf8 : (after : Bool) (character : ℕ) → character ≢ 37 → character ≢ 95 → escaped_behind after (encode_utf8 character) ≡ encode_utf8 character
 kept-encode_utf8 after character percent line = kept-only after character (encode_utf8 character) (encoded_only character) percent line
 
 wildcard_is : (b : ℕ) → is_wildcard b ≡ true → (b ≡ 37) ⊎ (b ≡ 95)
@@ -82,32 +83,32 @@ not_percent b e = grind (arith, nat_tests)
 not_line : (b : ℕ) → is_wildcard b ≡ false → b ≢ 95
 not_line b e = grind (arith, nat_tests)
 
-free_test : (character : ℕ) (t : Bool) → is_wildcard character ≡ t → wildcards_kept false (encode_utf8 character) ≡ encode_utf8 character
+free_test : (character : ℕ) (t : Bool) → is_wildcard character ≡ t → escaped_behind false (encode_utf8 character) ≡ encode_utf8 character
 unfolding encode_utf8
 free_test character false e = kept-encode_utf8 false character (not_percent character e) (not_line character e)
 free_test character true e =
-    ⊎_elim (λ is. subst (λ k. wildcards_kept false (encode_utf8 k) ≡ encode_utf8 k) (sym is) refl)
-    (λ is. subst (λ k. wildcards_kept false (encode_utf8 k) ≡ encode_utf8 k) (sym is) refl)
+    ⊎_elim (λ is. subst (λ k. escaped_behind false (encode_utf8 k) ≡ encode_utf8 k) (sym is) refl)
+    (λ is. subst (λ k. escaped_behind false (encode_utf8 k) ≡ encode_utf8 k) (sym is) refl)
     (wildcard_is character e)
 
 -- a character that is no wildcard behind a backslash stays as it is
-pub kept-free : (character : ℕ) → wildcards_kept false (encode_utf8 character) ≡ encode_utf8 character
+pub kept-free : (character : ℕ) → escaped_behind false (encode_utf8 character) ≡ encode_utf8 character
 kept-free character = free_test character (is_wildcard character) refl
 
-pub kept-other : (after : Bool) (character : ℕ) → is_wildcard character ≡ false → wildcards_kept after (encode_utf8 character) ≡ encode_utf8 character
+pub kept-other : (after : Bool) (character : ℕ) → is_wildcard character ≡ false → escaped_behind after (encode_utf8 character) ≡ encode_utf8 character
 kept-other after character e = kept-encode_utf8 after character (not_percent character e) (not_line character e)
 
 -- and a wildcard there has one more backslash before it
-pub kept-wildcard : (character : ℕ) → is_wildcard character ≡ true → wildcards_kept true (encode_utf8 character) ≡ 92 ∷ encode_utf8 character
+pub kept-wildcard : (character : ℕ) → is_wildcard character ≡ true → escaped_behind true (encode_utf8 character) ≡ 92 ∷ encode_utf8 character
 unfolding encode_utf8
 kept-wildcard character e =
-    ⊎_elim (λ is. subst (λ k. wildcards_kept true (encode_utf8 k) ≡ 92 ∷ encode_utf8 k) (sym is) refl)
-    (λ is. subst (λ k. wildcards_kept true (encode_utf8 k) ≡ 92 ∷ encode_utf8 k) (sym is) refl)
+    ⊎_elim (λ is. subst (λ k. escaped_behind true (encode_utf8 k) ≡ 92 ∷ encode_utf8 k) (sym is) refl)
+    (λ is. subst (λ k. escaped_behind true (encode_utf8 k) ≡ 92 ∷ encode_utf8 k) (sym is) refl)
     (wildcard_is character e)
 
 -- what is kept so far, and whether a backslash stands last
 pub record IsKeptSoFar (characters kept : List ℕ) (after : Bool) : Type 0 where
-  pub kept_is : kept ≡ wildcards_kept false (encode_utf8_all characters)
+  pub kept_is : kept ≡ escaped_behind false (encode_utf8_all characters)
   pub after_is : after ≡ ends_after false (encode_utf8_all characters)
 
 ends_only : (after : Bool) (character : ℕ) (text : List ℕ) → IsOnly character text → character ≢ 92 → after ≡ false → ends_after after text ≡ false
@@ -133,14 +134,14 @@ ends_test after character false e =
 encode_push : (characters : List ℕ) (character : ℕ) → encode_utf8_all (characters ++ character ∷ []) ≡ encode_utf8_all characters ++ encode_utf8 character
 encode_push characters character = simp (encodes-append, append-nil)
 
-pub kept_more : (characters kept more : List ℕ) (character : ℕ) (after next : Bool) → IsKeptSoFar characters kept after → more ≡ kept ++ wildcards_kept after (encode_utf8 character) → next ≡ eqb character 92
+pub kept_more : (characters kept more : List ℕ) (character : ℕ) (after next : Bool) → IsKeptSoFar characters kept after → more ≡ kept ++ escaped_behind after (encode_utf8 character) → next ≡ eqb character 92
     → IsKeptSoFar (characters ++ character ∷ []) more next
 kept_more characters kept more character after next so_far more_is next_is = record {
   kept_is =
       more_is
-      ∙ ap (λ l. l ++ wildcards_kept after (encode_utf8 character)) so_far.kept_is
-      ∙ ap (λ a. wildcards_kept false (encode_utf8_all characters) ++ wildcards_kept a (encode_utf8 character)) so_far.after_is
-      ∙ sym (ap (wildcards_kept false) (encode_push characters character) ∙ kept-append false (encode_utf8_all characters) (encode_utf8 character));
+      ∙ ap (λ l. l ++ escaped_behind after (encode_utf8 character)) so_far.kept_is
+      ∙ ap (λ a. escaped_behind false (encode_utf8_all characters) ++ escaped_behind a (encode_utf8 character)) so_far.after_is
+      ∙ sym (ap (escaped_behind false) (encode_push characters character) ∙ kept-append false (encode_utf8_all characters) (encode_utf8 character));
   after_is =
       next_is
       ∙ sym (ap (ends_after false) (encode_push characters character) ∙ ends-append false (encode_utf8_all characters) (encode_utf8 character) ∙ ends_test (ends_after false (encode_utf8_all characters)) character (eqb character 92) refl);

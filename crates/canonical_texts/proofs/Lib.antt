@@ -1,8 +1,10 @@
 pub mod Chains
 pub mod Characters
+pub mod Lexemes
 pub mod Members
 pub mod PartTexts
 pub mod Printable
 pub mod Segments
+pub mod SpelledAccounts
 pub mod Strings
 pub mod TokenTexts

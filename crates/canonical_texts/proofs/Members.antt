@@ -6,8 +6,9 @@ use Rattle.acl_names.specs.AuthId.{auth_text}
 use Rattle.acl_names.specs.declared.auth.AuthId.{AuthId}
 use Rattle.acl_stmt.specs.declared.privileges.PrivList.{PrivList}
 use Rattle.mandatory_roles.specs.Text.{roles_text}
-use Rattle.canonical_texts.specs.Lists.{each_below, list_text}
-use Rattle.canonical_texts.specs.Privileges.{items_of, or_usage, privileges_text, same_text}
+use Rattle.priv_items.specs.Canonical.{each_below, listed_by}
+use Rattle.canonical_texts.specs.Lists.{list_text}
+use Rattle.canonical_texts.specs.Privileges.{item_text, privileges_text, same_text}
 use Rattle.canonical_texts.specs.Statements.{activate_text}
 use Rattle.canonical_texts.specs.Texts.{members_text}
 
@@ -34,11 +35,11 @@ list_of_texts : {A : Type 0} (before between : List ℕ) (print : A → List ℕ
 list_of_texts before between print [] = refl
 list_of_texts before between print (x ∷ xs) = ap (λ l. before ++ (print x ++ l)) (others_text between print xs)
 
-pub items_written : {A : Type 0} (print : A → List ℕ) (xs : List A) (privileges : PrivList) → map print xs ≡ or_usage (items_of privileges) → privileges.all ≡ false
+pub items_written : {A : Type 0} (print : A → List ℕ) (xs : List A) (privileges : PrivList) → map print xs ≡ listed_by item_text privileges → privileges.all ≡ false
     → list_text (codes " ") (codes ", ") print xs ≡ privileges_text privileges
 items_written print xs privileges items all =
     sym (list_of_texts (codes " ") (codes ", ") print xs) ∙ ap (members_text same_text) items
-    ∙ sym (ap (λ t. cond t (codes " ALL") (members_text same_text (or_usage (items_of privileges)))) all)
+    ∙ sym (ap (λ t. cond t (codes " ALL") (members_text same_text (listed_by item_text privileges))) all)
 
 other_roles : (second : AuthId) (roles : List AuthId) → flat_map (λ other. codes "," ++ auth_text other) (second ∷ roles) ≡ codes "," ++ roles_text (second ∷ roles)
 other_roles second [] = ap (λ l. codes "," ++ l) (append-nil (auth_text second))

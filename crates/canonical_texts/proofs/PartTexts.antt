@@ -1,5 +1,6 @@
 -- What the tokens of the parts of statements print.
 use Rattle.std.proofs.Common.{◌≡◌, ℕ, zero, suc, Bool, true, false, cond, eqb, List, [], ◌∷◌, ◌++◌, map, Option, Some, None, refl, sym, ap, ◌∙◌, append_assoc, append-nil}
+use Rattle.std.proofs.lemmas.List.{map-append}
 use Rattle.std.specs.Int.{bit_at}
 use Rattle.std.specs.List.{flat_map}
 use Rattle.std.specs.Prelude.{codes, decimal}
@@ -15,14 +16,15 @@ use Rattle.acl_stmt.specs.declared.privileges.PrivList.{PrivList}
 use Rattle.acl_stmt.specs.declared.target.Target.{Target}
 use Rattle.acl_stmt.specs.declared.target.Target.TheVariants as on
 use Rattle.grant_lex.specs.Printed.{Printed, printed}
+use Rattle.mandatory_roles.proofs.Bytes.{is_byte}
+use Rattle.priv_items.specs.Canonical.{columns_at, dynamic_at, each_below, held_by, listed_by, member_if, or_usage, static_at}
 use Rattle.priv_sets.specs.DynamicNames.{dynamic_name}
 use Rattle.priv_sets.specs.PlainNames.{plain_name}
 use Rattle.priv_sets.specs.StaticSet.{holds}
-use Rattle.mandatory_roles.proofs.Bytes.{is_byte}
-use Rattle.canonical_texts.specs.Lists.{each_below, list_text, member_if, text_if}
-use Rattle.canonical_texts.specs.Privileges.{columns_at, columns_item, dynamic_at, items_of, or_usage, privileges_text, same_text, static_at}
+use Rattle.canonical_texts.specs.Lists.{list_text, text_if}
+use Rattle.canonical_texts.specs.Privileges.{columns_item, item_text, privileges_text, same_text}
 use Rattle.canonical_texts.specs.Texts.{accounts_text, altered_text, attempts_text, days_text, locked_text, members_text, new_text, options_text, password_text, renamed_text, target_text}
-use Rattle.canonical_texts.specs.Tokens.{account_tokens, accounts_tokens, altered_tokens, attempts_tokens, byte_onto, column_tokens, columns_item_tokens, columns_tokens_at, days_tokens, digits_token, dynamic_tokens_at, items_tokens, list_tokens, locked_tokens, mark, new_tokens, options_tokens, or_usage_tokens, parts_of, password_tokens, privileges_tokens, renamed_tokens, same_tokens, spaced_name, static_tokens_at, target_tokens, tokens_if, word, words_of}
+use Rattle.canonical_texts.specs.Tokens.{account_tokens, accounts_tokens, altered_tokens, attempts_tokens, byte_onto, column_tokens, columns_item_tokens, days_tokens, digits_token, item_tokens, list_tokens, locked_tokens, mark, new_tokens, options_tokens, parts_of, password_tokens, privileges_tokens, renamed_tokens, same_tokens, spaced_name, target_tokens, tokens_if, word, words_of}
 use Rattle.canonical_texts.proofs.Members.{below_none, below_suc}
 
 pub printed-append : (xs ys : List Printed) → printed (xs ++ ys) ≡ printed xs ++ printed ys
@@ -157,26 +159,22 @@ member_print : (test : Bool) (tokens : List Printed) (text : List ℕ) → print
 member_print true tokens text e = ap (λ l. l ∷ []) e
 member_print false tokens text e = refl
 
-map-append : {A B : Type 0} (f : A → B) (xs ys : List A) → map f (xs ++ ys) ≡ map f xs ++ map f ys
-map-append f [] ys = refl
-map-append f (x ∷ xs) ys = ap (λ l. f x ∷ l) (map-append f xs ys)
-
-columns_all : (number : ℕ) (columns : List ColumnPriv) → map printed (flat_map (columns_tokens_at number) columns) ≡ map spaced (flat_map (columns_at number) columns)
+columns_all : (number : ℕ) (columns : List ColumnPriv) → map printed (flat_map (columns_at item_tokens number) columns) ≡ map spaced (flat_map (columns_at item_text number) columns)
 columns_all number [] = refl
 columns_all number (c ∷ cs) =
-    map-append printed (columns_tokens_at number c) (flat_map (columns_tokens_at number) cs)
-    ∙ ap (λ l. l ++ map printed (flat_map (columns_tokens_at number) cs)) (member_print (eqb c.privilege number) (columns_item_tokens c) (columns_item c) (columns_item_print c))
-    ∙ ap (λ l. map spaced (columns_at number c) ++ l) (columns_all number cs)
-    ∙ sym (map-append spaced (columns_at number c) (flat_map (columns_at number) cs))
+    map-append printed (columns_at item_tokens number c) (flat_map (columns_at item_tokens number) cs)
+    ∙ ap (λ l. l ++ map printed (flat_map (columns_at item_tokens number) cs)) (member_print (eqb number c.privilege) (columns_item_tokens c) (columns_item c) (columns_item_print c))
+    ∙ ap (λ l. map spaced (columns_at item_text number c) ++ l) (columns_all number cs)
+    ∙ sym (map-append spaced (columns_at item_text number c) (flat_map (columns_at item_text number) cs))
 
-static_print : (privileges : PrivList) (number : ℕ) → map printed (static_tokens_at privileges number) ≡ map spaced (static_at privileges number)
+static_print : (privileges : PrivList) (number : ℕ) → map printed (static_at item_tokens privileges number) ≡ map spaced (static_at item_text privileges number)
 static_print privileges number =
-    map-append printed (member_if (holds privileges.plain number) (words_of (plain_name number))) (flat_map (columns_tokens_at number) privileges.columns)
-    ∙ ap (λ l. l ++ map printed (flat_map (columns_tokens_at number) privileges.columns)) (member_print (holds privileges.plain number) (words_of (plain_name number)) (plain_name number) (words_text (plain_name number)))
+    map-append printed (member_if (holds privileges.plain number) (words_of (plain_name number))) (flat_map (columns_at item_tokens number) privileges.columns)
+    ∙ ap (λ l. l ++ map printed (flat_map (columns_at item_tokens number) privileges.columns)) (member_print (holds privileges.plain number) (words_of (plain_name number)) (plain_name number) (words_text (plain_name number)))
     ∙ ap (λ l. map spaced (member_if (holds privileges.plain number) (plain_name number)) ++ l) (columns_all number privileges.columns)
-    ∙ sym (map-append spaced (member_if (holds privileges.plain number) (plain_name number)) (flat_map (columns_at number) privileges.columns))
+    ∙ sym (map-append spaced (member_if (holds privileges.plain number) (plain_name number)) (flat_map (columns_at item_text number) privileges.columns))
 
-dynamic_print : (dynamic number : ℕ) → map printed (dynamic_tokens_at dynamic number) ≡ map spaced (dynamic_at dynamic number)
+dynamic_print : (dynamic number : ℕ) → map printed (dynamic_at item_tokens dynamic number) ≡ map spaced (dynamic_at item_text dynamic number)
 dynamic_print dynamic number = member_print (eqb (bit_at dynamic number) 1) (words_of (dynamic_name number)) (dynamic_name number) (words_text (dynamic_name number))
 
 below_print : (n : ℕ) (tokens : ℕ → List (List Printed)) (texts : ℕ → List (List ℕ)) → ((k : ℕ) → map printed (tokens k) ≡ map spaced (texts k)) → map printed (each_below n tokens) ≡ map spaced (each_below n texts)
@@ -188,14 +186,14 @@ below_print (suc n) tokens texts each =
     ∙ ap (λ l. map spaced (each_below n texts) ++ l) (each n)
     ∙ sym (ap (map spaced) (below_suc n texts) ∙ map-append spaced (each_below n texts) (texts n))
 
-items_print : (privileges : PrivList) → map printed (items_tokens privileges) ≡ map spaced (items_of privileges)
+items_print : (privileges : PrivList) → map printed (held_by item_tokens privileges) ≡ map spaced (held_by item_text privileges)
 items_print privileges =
-    map-append printed (each_below 31 (static_tokens_at privileges)) (each_below 20 (dynamic_tokens_at privileges.dynamic))
-    ∙ ap (λ l. l ++ map printed (each_below 20 (dynamic_tokens_at privileges.dynamic))) (below_print 31 (static_tokens_at privileges) (static_at privileges) (static_print privileges))
-    ∙ ap (λ l. map spaced (each_below 31 (static_at privileges)) ++ l) (below_print 20 (dynamic_tokens_at privileges.dynamic) (dynamic_at privileges.dynamic) (dynamic_print privileges.dynamic))
-    ∙ sym (map-append spaced (each_below 31 (static_at privileges)) (each_below 20 (dynamic_at privileges.dynamic)))
+    map-append printed (each_below 31 (static_at item_tokens privileges)) (each_below 20 (dynamic_at item_tokens privileges.dynamic))
+    ∙ ap (λ l. l ++ map printed (each_below 20 (dynamic_at item_tokens privileges.dynamic))) (below_print 31 (static_at item_tokens privileges) (static_at item_text privileges) (static_print privileges))
+    ∙ ap (λ l. map spaced (each_below 31 (static_at item_text privileges)) ++ l) (below_print 20 (dynamic_at item_tokens privileges.dynamic) (dynamic_at item_text privileges.dynamic) (dynamic_print privileges.dynamic))
+    ∙ sym (map-append spaced (each_below 31 (static_at item_text privileges)) (each_below 20 (dynamic_at item_text privileges.dynamic)))
 
-usage_print : (tokens : List (List Printed)) (texts : List (List ℕ)) → map printed tokens ≡ map spaced texts → map printed (or_usage_tokens tokens) ≡ map spaced (or_usage texts)
+usage_print : (tokens : List (List Printed)) (texts : List (List ℕ)) → map printed tokens ≡ map spaced texts → map printed (or_usage item_tokens tokens) ≡ map spaced (or_usage item_text texts)
 usage_print [] [] e = refl
 usage_print [] (y ∷ ys) e = cc
 usage_print (x ∷ xs) [] e = cc
@@ -227,4 +225,4 @@ all_print false tokens texts e = items_list tokens texts e
 
 pub privileges_print : (privileges : PrivList) → printed (privileges_tokens privileges) ≡ privileges_text privileges
 privileges_print privileges =
-    all_print privileges.all (or_usage_tokens (items_tokens privileges)) (or_usage (items_of privileges)) (usage_print (items_tokens privileges) (items_of privileges) (items_print privileges))
+    all_print privileges.all (listed_by item_tokens privileges) (listed_by item_text privileges) (usage_print (held_by item_tokens privileges) (held_by item_text privileges) (items_print privileges))

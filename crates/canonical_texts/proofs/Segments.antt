@@ -25,12 +25,13 @@ use Rattle.grant_lex.specs.Token.{IsOfSort}
 use Rattle.grant_lex.specs.declared.sorts.Kind.TheVariants.{Word, Quoted}
 use Rattle.hex.specs.Hex.{encode_lower, encode_with, lower_digits}
 use Rattle.mandatory_roles.proofs.Bytes.{class_from_word, is_byte}
+use Rattle.priv_items.specs.Canonical.{columns_at, dynamic_at, each_below, held_by, listed_by, member_if, or_usage, static_at}
+use Rattle.priv_items.specs.Escapes.{escaped}
 use Rattle.priv_sets.specs.DynamicNames.{dynamic_name, dynamic_names}
 use Rattle.priv_sets.specs.PlainNames.{plain_name, plain_names}
 use Rattle.priv_sets.specs.StaticSet.{holds}
-use Rattle.canonical_texts.specs.Lists.{each_below, member_if}
-use Rattle.canonical_texts.specs.Quotes.{string_byte, string_inside, string_text, wildcards_kept}
-use Rattle.canonical_texts.specs.Tokens.{account_tokens, accounts_tokens, altered_tokens, attempts_tokens, column_tokens, columns_item_tokens, columns_tokens_at, days_tokens, digits_token, dynamic_tokens_at, items_tokens, list_tokens, locked_tokens, mark, name, new_tokens, opening, options_tokens, or_usage_tokens, parts_of, password_tokens, privileges_tokens, renamed_tokens, same_tokens, spaced_name, static_tokens_at, string, target_tokens, tokens_if, word, words_of}
+use Rattle.canonical_texts.specs.Quotes.{string_byte, string_inside, string_text}
+use Rattle.canonical_texts.specs.Tokens.{account_tokens, accounts_tokens, altered_tokens, attempts_tokens, column_tokens, columns_item_tokens, days_tokens, digits_token, item_tokens, list_tokens, locked_tokens, mark, name, new_tokens, opening, options_tokens, parts_of, password_tokens, privileges_tokens, renamed_tokens, same_tokens, spaced_name, string, target_tokens, tokens_if, word, words_of}
 use Rattle.canonical_texts.proofs.Chains.{IsChain, IsSegment, IsToken, follows_start, no_tokens, segment_append, segment_cons, segment_flat, segment_list, segment_mark}
 use Rattle.canonical_texts.proofs.Members.{below_none, below_suc}
 
@@ -202,7 +203,7 @@ dot_name item = segment_mark 46 [] (name item ∷ []) tt refl (name_chain item [
 
 pub target_segment : (target : Target) → IsSegment (target_tokens target)
 target_segment on.Global = segment_mark 42 (codes " ") _ (refl, tt) refl dot_star.chain
-target_segment (on.Schema schema) = name_then (wildcards_kept false schema) _ dot_star
+target_segment (on.Schema schema) = name_then (escaped schema) _ dot_star
 target_segment (on.Table schema table) = name_then schema _ (dot_name table)
 target_segment (on.Function schema routine) = word_then (codes "FUNCTION") _ refl (name_then schema _ (dot_name routine))
 target_segment (on.Procedure schema routine) = word_then (codes "PROCEDURE") _ refl (name_then schema _ (dot_name routine))
@@ -220,22 +221,22 @@ member_segments : (test : Bool) (tokens : List Printed) → (test ≡ true → I
 member_segments true tokens segment = (segment refl, tt)
 member_segments false tokens segment = tt
 
-columns_all : (number : ℕ) (columns : List ColumnPriv) → number < 31 → AllByRecursion IsSegment (flat_map (columns_tokens_at number) columns)
+columns_all : (number : ℕ) (columns : List ColumnPriv) → number < 31 → AllByRecursion IsSegment (flat_map (columns_at item_tokens number) columns)
 columns_all number [] lt = tt
 columns_all number (c ∷ cs) lt =
-    all_append IsSegment (columns_tokens_at number c) (flat_map (columns_tokens_at number) cs)
-    (member_segments (eqb c.privilege number) (columns_item_tokens c)
+    all_append IsSegment (columns_at item_tokens number c) (flat_map (columns_at item_tokens number) cs)
+    (member_segments (eqb number c.privilege) (columns_item_tokens c)
     (λ same. segment_append (words_of (plain_name c.privilege)) (column_tokens c.names)
-    (words_segment (plain_name c.privilege) (plain_words c.privilege (subst (λ k. k < 31) (sym (is_byte c.privilege number same)) lt))) (columns_segment c.names)))
+    (words_segment (plain_name c.privilege) (plain_words c.privilege (subst (λ k. k < 31) (is_byte number c.privilege same) lt))) (columns_segment c.names)))
     (columns_all number cs lt)
 
-static_segments : (privileges : PrivList) (number : ℕ) → number < 31 → AllByRecursion IsSegment (static_tokens_at privileges number)
+static_segments : (privileges : PrivList) (number : ℕ) → number < 31 → AllByRecursion IsSegment (static_at item_tokens privileges number)
 static_segments privileges number lt =
-    all_append IsSegment (member_if (holds privileges.plain number) (words_of (plain_name number))) (flat_map (columns_tokens_at number) privileges.columns)
+    all_append IsSegment (member_if (holds privileges.plain number) (words_of (plain_name number))) (flat_map (columns_at item_tokens number) privileges.columns)
     (member_segments (holds privileges.plain number) (words_of (plain_name number)) (λ _. words_segment (plain_name number) (plain_words number lt)))
     (columns_all number privileges.columns lt)
 
-dynamic_segments : (dynamic number : ℕ) → number < 20 → AllByRecursion IsSegment (dynamic_tokens_at dynamic number)
+dynamic_segments : (dynamic number : ℕ) → number < 20 → AllByRecursion IsSegment (dynamic_at item_tokens dynamic number)
 dynamic_segments dynamic number lt =
     member_segments (eqb (bit_at dynamic number) 1) (words_of (dynamic_name number)) (λ _. words_segment (dynamic_name number) (dynamic_words number lt))
 
@@ -244,12 +245,12 @@ below_segments zero at each = subst (AllByRecursion IsSegment) (sym (below_none 
 below_segments (suc n) at each =
     subst (AllByRecursion IsSegment) (sym (below_suc n at)) (all_append IsSegment (each_below n at) (at n) (below_segments n at (λ k lt. each k (omega arith))) (each n (omega arith)))
 
-items_segments : (privileges : PrivList) → AllByRecursion IsSegment (items_tokens privileges)
+items_segments : (privileges : PrivList) → AllByRecursion IsSegment (held_by item_tokens privileges)
 items_segments privileges =
-    all_append IsSegment (each_below 31 (static_tokens_at privileges)) (each_below 20 (dynamic_tokens_at privileges.dynamic))
-    (below_segments 31 (static_tokens_at privileges) (static_segments privileges)) (below_segments 20 (dynamic_tokens_at privileges.dynamic) (dynamic_segments privileges.dynamic))
+    all_append IsSegment (each_below 31 (static_at item_tokens privileges)) (each_below 20 (dynamic_at item_tokens privileges.dynamic))
+    (below_segments 31 (static_at item_tokens privileges) (static_segments privileges)) (below_segments 20 (dynamic_at item_tokens privileges.dynamic) (dynamic_segments privileges.dynamic))
 
-usage_segments : (items : List (List Printed)) → AllByRecursion IsSegment items → AllByRecursion IsSegment (or_usage_tokens items)
+usage_segments : (items : List (List Printed)) → AllByRecursion IsSegment items → AllByRecursion IsSegment (or_usage item_tokens items)
 usage_segments [] each = (word_then (codes "USAGE") [] refl no_tokens, tt)
 usage_segments (x ∷ xs) each = each
 
@@ -266,4 +267,4 @@ all_segment true items each = word_then (codes "ALL") [] refl no_tokens
 all_segment false items each = items_list items each
 
 pub privileges_segment : (privileges : PrivList) → IsSegment (privileges_tokens privileges)
-privileges_segment privileges = all_segment privileges.all (or_usage_tokens (items_tokens privileges)) (usage_segments (items_tokens privileges) (items_segments privileges))
+privileges_segment privileges = all_segment privileges.all (listed_by item_tokens privileges) (usage_segments (held_by item_tokens privileges) (items_segments privileges))

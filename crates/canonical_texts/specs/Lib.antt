@@ -1,6 +1,8 @@
+pub mod Lexemes
 pub mod Lists
 pub mod Privileges
 pub mod Quotes
+pub mod Rules
 pub mod StatementTokens
 pub mod Statements
 pub mod Texts

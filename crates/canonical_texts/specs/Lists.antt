@@ -1,5 +1,5 @@
 -- Lists of texts.
-use Rattle.std.specs.Prelude.{ℕ, zero, suc, Bool, if◌then◌else◌, List, [], ◌∷◌, ◌++◌}
+use Rattle.std.specs.Prelude.{ℕ, Bool, if◌then◌else◌, List, [], ◌∷◌, ◌++◌}
 use Rattle.std.specs.List.{flat_map}
 
 -- the members, with one text before the first and another before each further one; nothing for no member
@@ -7,15 +7,6 @@ abbrev pub list_text : {A : Type 0} → List ℕ → List ℕ → (A → List �
 list_text before between print [] = []
 list_text before between print (first ∷ others) = before ++ (print first ++ flat_map (λ other. between ++ print other) others)
 
--- what there is at each number below a limit, in order
-unfoldable pub each_below : {A : Type 0} → ℕ → (ℕ → List A) → List A
-each_below zero at = []
-each_below (suc limit) at = each_below limit at ++ at limit
-
 -- the text, where the test holds
 abbrev pub text_if : Bool → List ℕ → List ℕ
 text_if test text = if test then text else []
-
--- one member, where the test holds
-abbrev pub member_if : {A : Type 0} → Bool → A → List A
-member_if test member = if test then member ∷ [] else []

@@ -1,6 +1,5 @@
 -- The tokens of the parts of statements, each with the blanks before it.
 use Rattle.std.specs.Prelude.{ℕ, Bool, true, false, ◌==◌, if◌then◌else◌, List, [], ◌∷◌, ◌++◌, map, Option, Some, None, codes, decimal}
-use Rattle.std.specs.Int.{bit_at}
 use Rattle.std.specs.List.{flat_map}
 use Rattle.acl_names.specs.Quoted.{quoted}
 use Rattle.acl_names.specs.declared.auth.AuthId.{AuthId}
@@ -15,11 +14,10 @@ use Rattle.acl_stmt.specs.declared.target.Target.TheVariants as on
 use Rattle.grant_lex.specs.Printed.{Printed}
 use Rattle.grant_lex.specs.declared.sorts.Kind.TheVariants.{Word, Quoted, Backquoted, Mark}
 use Rattle.hex.specs.Hex.{encode_lower}
+use Rattle.priv_items.specs.Canonical.{PerItem, listed_by}
+use Rattle.priv_items.specs.Escapes.{escaped}
 use Rattle.priv_sets.specs.DynamicNames.{dynamic_name}
 use Rattle.priv_sets.specs.PlainNames.{plain_name}
-use Rattle.priv_sets.specs.StaticSet.{holds}
-use Rattle.canonical_texts.specs.Lists.{each_below, member_if}
-use Rattle.canonical_texts.specs.Quotes.{wildcards_kept}
 
 -- a word with a space before it
 abbrev pub word : List ℕ → Printed
@@ -110,7 +108,7 @@ options_tokens options = attempts_tokens options.attempts ++ (days_tokens option
 -- `.` has the code 46, and `*` the code 42
 abbrev pub target_tokens : Target → List Printed
 target_tokens on.Global = spaced_mark 42 ∷ mark 46 ∷ mark 42 ∷ []
-target_tokens (on.Schema schema) = spaced_name (wildcards_kept false schema) ∷ mark 46 ∷ mark 42 ∷ []
+target_tokens (on.Schema schema) = spaced_name (escaped schema) ∷ mark 46 ∷ mark 42 ∷ []
 target_tokens (on.Table schema table) = spaced_name schema ∷ mark 46 ∷ name table ∷ []
 target_tokens (on.Function schema routine) = word (codes "FUNCTION") ∷ spaced_name schema ∷ mark 46 ∷ name routine ∷ []
 target_tokens (on.Procedure schema routine) = word (codes "PROCEDURE") ∷ spaced_name schema ∷ mark 46 ∷ name routine ∷ []
@@ -123,26 +121,17 @@ column_tokens (first ∷ others) = spaced_mark 40 ∷ name first ∷ (flat_map (
 abbrev pub columns_item_tokens : ColumnPriv → List Printed
 columns_item_tokens columns = words_of (plain_name columns.privilege) ++ column_tokens columns.names
 
-abbrev pub columns_tokens_at : ℕ → ColumnPriv → List (List Printed)
-columns_tokens_at number columns = member_if (columns.privilege == number) (columns_item_tokens columns)
-
-abbrev pub static_tokens_at : PrivList → ℕ → List (List Printed)
-static_tokens_at privileges number =
-    member_if (holds privileges.plain number) (words_of (plain_name number)) ++ flat_map (columns_tokens_at number) privileges.columns
-
-abbrev pub dynamic_tokens_at : ℕ → ℕ → List (List Printed)
-dynamic_tokens_at dynamic number = member_if (bit_at dynamic number == 1) (words_of (dynamic_name number))
-
-abbrev pub items_tokens : PrivList → List (List Printed)
-items_tokens privileges = each_below 31 (static_tokens_at privileges) ++ each_below 20 (dynamic_tokens_at privileges.dynamic)
-
-abbrev pub or_usage_tokens : List (List Printed) → List (List Printed)
-or_usage_tokens [] = (word (codes "USAGE") ∷ []) ∷ []
-or_usage_tokens (first ∷ others) = first ∷ others
+abbrev pub item_tokens : PerItem (List Printed)
+item_tokens = record {
+  plain = λ number. words_of (plain_name number);
+  columns = columns_item_tokens;
+  dynamic = λ number. words_of (dynamic_name number);
+  usage = word (codes "USAGE") ∷ [];
+}
 
 abbrev pub same_tokens : List Printed → List Printed
 same_tokens tokens = tokens
 
 abbrev pub privileges_tokens : PrivList → List Printed
 privileges_tokens privileges =
-    if privileges.all then word (codes "ALL") ∷ [] else list_tokens same_tokens (or_usage_tokens (items_tokens privileges))
+    if privileges.all then word (codes "ALL") ∷ [] else list_tokens same_tokens (listed_by item_tokens privileges)

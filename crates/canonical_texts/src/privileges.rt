@@ -1,8 +1,8 @@
 ghost use Rattle.std.specs.Prelude.{◌≡◌, ◌==◌, ◌++◌, ◌<◌, IfOk, OnOk, map, string_bytes};
 ghost use Rattle.std.specs.Int.{bit_at};
 ghost use Rattle.std.specs.List.{flat_map};
-ghost use Rattle.canonical_texts.specs.Lists.{each_below, member_if};
-ghost use Rattle.canonical_texts.specs.Privileges.{columns_at, columns_item, dynamic_at, items_of, or_usage, privileges_text, static_at};
+ghost use Rattle.priv_items.specs.Canonical.{columns_at, dynamic_at, each_below, held_by, listed_by, member_if, static_at};
+ghost use Rattle.canonical_texts.specs.Privileges.{columns_item, item_text, privileges_text};
 
 use crate::lists::write_list;
 use acl_stmt::{ColumnPriv, PrivList};
@@ -26,7 +26,7 @@ pub(crate) fn write_privileges(
 }
 
 fn items_or_usage(alloc: Global, privileges: &PrivList) -> Result<Vec<String>, AllocError>
-    ensures { IfOk result (λ items. map string_bytes items.items ≡ or_usage (items_of privileges.now)) }
+    ensures { IfOk result (λ items. map string_bytes items.items ≡ listed_by item_text privileges.now) }
 {
     let mut items = items_of(alloc, privileges)?;
     if items.is_empty() {
@@ -36,7 +36,7 @@ fn items_or_usage(alloc: Global, privileges: &PrivList) -> Result<Vec<String>, A
 }
 
 fn items_of(alloc: Global, privileges: &PrivList) -> Result<Vec<String>, AllocError>
-    ensures { IfOk result (λ items. map string_bytes items.items ≡ items_of privileges.now) }
+    ensures { IfOk result (λ items. map string_bytes items.items ≡ held_by item_text privileges.now) }
 {
     let mut items = Vec::new(alloc);
     push_all_static(&mut items, alloc, privileges)?;
@@ -50,7 +50,7 @@ fn push_all_static(
     privileges: &PrivList,
 ) -> Result<(), AllocError>
     ensures { OnOk result (map string_bytes items.new.items
-        ≡ map string_bytes items.old.items ++ each_below 31 (static_at privileges.now)) }
+        ≡ map string_bytes items.old.items ++ each_below 31 (static_at item_text privileges.now)) }
 {
     for number in 0..31u8 {
         push_static(items, alloc, privileges, number)?;
@@ -66,7 +66,7 @@ fn push_static(
 ) -> Result<(), AllocError>
     requires { number < 31 }
     ensures { OnOk result (map string_bytes items.new.items
-        ≡ map string_bytes items.old.items ++ static_at privileges.now number) }
+        ≡ map string_bytes items.old.items ++ static_at item_text privileges.now number) }
 {
     let plain = Plain::new(number);
     push_if(items, alloc, privileges.plain.has(plain), plain.name())?;
@@ -80,7 +80,7 @@ fn push_columns(
     plain: Plain,
 ) -> Result<(), AllocError>
     ensures { OnOk result (map string_bytes items.new.items
-        ≡ map string_bytes items.old.items ++ flat_map (columns_at plain) columns.now) }
+        ≡ map string_bytes items.old.items ++ flat_map (columns_at item_text plain) columns.now) }
 {
     for listed in columns {
         push_columns_at(items, alloc, listed, plain)?;
@@ -95,9 +95,9 @@ fn push_columns_at(
     plain: Plain,
 ) -> Result<(), AllocError>
     ensures { OnOk result (map string_bytes items.new.items
-        ≡ map string_bytes items.old.items ++ columns_at plain columns.now) }
+        ≡ map string_bytes items.old.items ++ columns_at item_text plain columns.now) }
 {
-    if columns.privilege == plain.number() {
+    if plain.number() == columns.privilege {
         let item = columns_item(alloc, columns, plain)?;
         items.push(item)?;
     }
@@ -116,7 +116,7 @@ fn columns_item(alloc: Global, columns: &ColumnPriv, plain: Plain) -> Result<Str
 
 fn push_all_dynamic(items: &mut Vec<String>, alloc: Global, dynamic: u32) -> Result<(), AllocError>
     ensures { OnOk result (map string_bytes items.new.items
-        ≡ map string_bytes items.old.items ++ each_below 20 (dynamic_at dynamic)) }
+        ≡ map string_bytes items.old.items ++ each_below 20 (dynamic_at item_text dynamic)) }
 {
     for number in 0..20u8 {
         push_dynamic(items, alloc, dynamic, number)?;
@@ -132,7 +132,7 @@ fn push_dynamic(
 ) -> Result<(), AllocError>
     requires { number < 20 }
     ensures { OnOk result (map string_bytes items.new.items
-        ≡ map string_bytes items.old.items ++ dynamic_at dynamic number) }
+        ≡ map string_bytes items.old.items ++ dynamic_at item_text dynamic number) }
 {
     let name = Dynamic::new(number).name();
     push_if(items, alloc, has_bit(dynamic, number), name)

@@ -1,6 +1,7 @@
-ghost use Rattle.std.specs.Prelude.{◌≡◌, ◌++◌, OnOk, IfOk, false, string_bytes, encode_utf8};
+ghost use Rattle.std.specs.Prelude.{◌≡◌, ◌++◌, OnOk, IfOk, string_bytes, encode_utf8};
 ghost use Rattle.acl_names.specs.Quoted.{doubled, quoted};
-ghost use Rattle.canonical_texts.specs.Quotes.{is_wildcard, schema_text, string_inside, string_text, wildcards_kept};
+ghost use Rattle.priv_items.specs.Escapes.{escaped, escaped_behind, is_wildcard};
+ghost use Rattle.canonical_texts.specs.Quotes.{schema_text, string_inside, string_text};
 
 use std::alloc::{AllocError, Global};
 
@@ -66,12 +67,12 @@ fn write_inside_character(text: &mut String, character: char) -> Result<(), Allo
 pub(crate) fn write_schema(text: &mut String, alloc: Global, schema: &str) -> Result<(), AllocError>
     ensures { OnOk result (string_bytes text.new ≡ string_bytes text.old ++ schema_text schema.now) }
 {
-    let kept = wildcards_kept(alloc, schema)?;
+    let kept = escaped(alloc, schema)?;
     write_quoted(text, kept.as_str())
 }
 
-fn wildcards_kept(alloc: Global, schema: &str) -> Result<String, AllocError>
-    ensures { IfOk result (λ kept. string_bytes kept ≡ wildcards_kept false schema.now) }
+fn escaped(alloc: Global, schema: &str) -> Result<String, AllocError>
+    ensures { IfOk result (λ kept. string_bytes kept ≡ escaped schema.now) }
 {
     let mut kept = String::new(alloc);
     let mut after = false;
@@ -84,7 +85,7 @@ fn wildcards_kept(alloc: Global, schema: &str) -> Result<String, AllocError>
 
 /// Appends a character of a schema's name, `after` a backslash or not.
 fn write_kept_character(kept: &mut String, after: bool, character: char) -> Result<(), AllocError>
-    ensures { OnOk result (string_bytes kept.new ≡ string_bytes kept.old ++ wildcards_kept after (encode_utf8 character)) }
+    ensures { OnOk result (string_bytes kept.new ≡ string_bytes kept.old ++ escaped_behind after (encode_utf8 character)) }
 {
     if after && is_wildcard(character) {
         kept.push('\\')?;

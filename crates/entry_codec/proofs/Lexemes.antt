@@ -4,13 +4,14 @@ use Rattle.std.proofs.Math.Seq.{drop-append-add, drop-append_seam, take-append_s
 use Rattle.std.specs.Prelude.{slice_range}
 use Rattle.acl_stmt.specs.declared.statement.Statement.{Statement}
 use Rattle.canonical_texts.proofs.TokenTexts.{tokens_text}
+use Rattle.canonical_texts.specs.Lexemes.{canonical_lexemes}
 use Rattle.canonical_texts.specs.StatementTokens.{canonical_tokens}
 use Rattle.canonical_texts.specs.Statements.{canonical_text}
 use Rattle.grant_lex.specs.Printed.{Printed, printed, tokens_of}
 use Rattle.grant_lex.specs.Value.{value_of}
+use Rattle.grant_words.specs.Lexemes.{printed_lexeme, printed_lexemes}
 use Rattle.grant_words.specs.Lexemes.{lexemes_of}
 use Rattle.grant_words.specs.declared.lexeme.Lexeme.{Lexeme}
-use Rattle.user_texts.specs.Lexemes.{canonical_lexemes, lexeme_of, printed_lexemes}
 
 -- a part of a text, from its place
 part : (before blanks text rest : List ℕ)
@@ -38,7 +39,7 @@ lexemes_behind before (p ∷ ps) =
     ∙ ap (λ n. lexemes_of (behind ++ printed ps) (tokens_of n ps)) (sym (three_long before p.blanks p.text)) in
     let value = ap value_of (part before p.blanks p.text (printed ps)) in
     ap (λ v. let made : Lexeme = record { kind = p.kind; value = v } in made ∷ lexemes_of (before ++ (p.blanks ++ (p.text ++ printed ps))) (tokens_of (length before + length p.blanks + length p.text) ps)) value
-    ∙ ap (λ l. lexeme_of p ∷ l) (same ∙ lexemes_behind behind ps)
+    ∙ ap (λ l. printed_lexeme p ∷ l) (same ∙ lexemes_behind behind ps)
 
 -- the tokens of a canonical text
 pub canonical_read : (s : Statement) → lexemes_of (canonical_text s) (tokens_of 0 (canonical_tokens s)) ≡ canonical_lexemes s

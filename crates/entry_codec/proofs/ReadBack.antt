@@ -9,6 +9,8 @@ use Rattle.acl_stmt.specs.Statements.{is_statement}
 use Rattle.acl_stmt.specs.declared.statement.Statement.{Statement}
 use Rattle.acl_stmt.specs.declared.statement.Statement.TheVariants.{SetPassword}
 use Rattle.canonical_texts.proofs.Printable.{canonical_cut}
+use Rattle.canonical_texts.specs.Lexemes.{canonical_lexemes}
+use Rattle.canonical_texts.specs.Rules.{account_keeps_rules}
 use Rattle.canonical_texts.specs.StatementTokens.{canonical_tokens}
 use Rattle.canonical_texts.specs.Statements.{canonical_text}
 use Rattle.grant_lex.specs.Printed.{tokens_of}
@@ -24,12 +26,10 @@ use Rattle.privilege_statements.specs.declared.statement.RawStatement.TheVariant
 use Rattle.privilege_texts.proofs.Spelled.{all_front}
 use Rattle.privilege_texts.proofs.Statements.{read_back as privileges_read_back}
 use Rattle.privilege_texts.proofs.TokenValues.{tokens_are_text}
-use Rattle.privilege_texts.specs.Lexemes.{IsText}
-use Rattle.privilege_texts.specs.ReadBack.{IsReadBack as IsSpelledAgain}
+use Rattle.privilege_texts.specs.Rules.{IsText}
+use Rattle.privilege_texts.specs.SpelledAgain.{IsSpelledAgain}
 use Rattle.user_statements.specs.Statements.{user_statement}
 use Rattle.user_texts.proofs.Statements.{canonical_read as users_read_back, completed_read}
-use Rattle.user_texts.specs.Lexemes.{canonical_lexemes}
-use Rattle.user_texts.specs.Rules.{KeepsRules}
 use Rattle.entry_codec.proofs.Cuts.{IsCutUp, meant_cut}
 use Rattle.entry_codec.proofs.Lexemes.{canonical_read}
 use Rattle.entry_codec.specs.ReadBack.{IsReadBack}
@@ -92,7 +92,7 @@ read_back s most bytes utf8 (short, inr raw, (tokens, cut, k), fits, means) comp
     raw_again (lexemes_of bytes tokens) raw s k (record { text = tokens_are_text bytes tokens utf8 cut; fits = fits; means = means })
 
 -- a SET PASSWORD that an account completes
-user_rule_completed : (ts : List Lexeme) (a : AuthId) (v : Verifier) → spells (grammar_of user_rule) ts (SetPassword None v) → KeepsRules a
+user_rule_completed : (ts : List Lexeme) (a : AuthId) (v : Verifier) → spells (grammar_of user_rule) ts (SetPassword None v) → IsTrue (account_keeps_rules a)
     → IsReadBack (canonical_text (SetPassword (Some a) v)) (SetPassword (Some a) v)
 unfolding user_rule semicolon is_statement
 user_rule_completed ts a v (w, (us, ws, cut, spelled, end), same) keeps =
@@ -101,7 +101,7 @@ user_rule_completed ts a v (w, (us, ws, cut, spelled, end), same) keeps =
     read_as s (inl s) (canonical_cut s refl)
     (inl (s, ((s, tt), (canonical_lexemes s, [], sym (append-nil (canonical_lexemes s)), again, inr (refl, refl)), refl), refl)) refl refl
 
-spelled_completed : (ts : List Lexeme) (a : AuthId) (v : Verifier) (x : Statement) → SpellsStatement ts (inl x) → SetPassword None v ≡ x → KeepsRules a
+spelled_completed : (ts : List Lexeme) (a : AuthId) (v : Verifier) (x : Statement) → SpellsStatement ts (inl x) → SetPassword None v ≡ x → IsTrue (account_keeps_rules a)
     → IsReadBack (canonical_text (SetPassword (Some a) v)) (SetPassword (Some a) v)
 spelled_completed ts a v x (inl (y, k, same)) means keeps =
     user_rule_completed ts a v (subst (spells (grammar_of user_rule) ts) (sym (means ∙ inner x y same)) k) keeps
@@ -110,7 +110,7 @@ spelled_completed ts a v x (inl (y, k, same)) means keeps =
     inner b c e = cc
 spelled_completed ts a v x (inr (y, k, same)) means keeps = absurd (cc)
 
-pub completed : (a : AuthId) (v : Verifier) (most : ℕ) (bytes : List ℕ) → IsStatement most bytes (SetPassword None v) → KeepsRules a
+pub completed : (a : AuthId) (v : Verifier) (most : ℕ) (bytes : List ℕ) → IsStatement most bytes (SetPassword None v) → IsTrue (account_keeps_rules a)
     → IsReadBack (canonical_text (SetPassword (Some a) v)) (SetPassword (Some a) v)
 completed a v most bytes (short, inl x, (tokens, cut, k), fits, means) keeps = spelled_completed (lexemes_of bytes tokens) a v x k means keeps
 completed a v most bytes (short, inr (Grant named target accounts option), spelled, fits, (list, meant, same)) keeps = absurd (cc)

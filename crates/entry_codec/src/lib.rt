@@ -9,14 +9,13 @@ ghost use Rattle.acl_names.specs.declared.auth.AuthId.{AuthId};
 ghost use Rattle.acl_names.specs.declared.policy.Verifier.{Verifier};
 ghost use Rattle.acl_stmt.specs.Entries.{is_complete};
 ghost use Rattle.acl_stmt.specs.declared.statement.Statement.TheVariants.{SetPassword};
+ghost use Rattle.canonical_texts.specs.Rules.{account_keeps_rules};
 ghost use Rattle.canonical_texts.specs.Statements.{canonical_text};
 ghost use Rattle.grant_parse.specs.Meaning.{IsStatement};
-ghost use Rattle.user_texts.specs.Rules.{KeepsRules};
 ghost use Rattle.entry_codec.specs.ReadBack.{IsReadBack};
 
 use acl_stmt::Statement;
 use std::alloc::{AllocError, Global};
-
 
 /// The canonical text of `statement`, from which it is read back.
 ///
@@ -30,7 +29,7 @@ pub fn text_of(alloc: Global, statement: &Statement) -> Result<String, AllocErro
 
     // So it is where some text is a SET PASSWORD that names none, and an account within its rules completes it.
     ensures completed { (most : ℕ) (bytes : List ℕ) (account : AuthId) (verifier : Verifier)
-        → IsStatement most bytes (SetPassword None verifier) → KeepsRules account
+        → IsStatement most bytes (SetPassword None verifier) → IsTrue (account_keeps_rules account)
         → statement.now ≡ SetPassword (Some account) verifier
         → IfOk result (λ text. IsReadBack (string_bytes text) statement.now) }
 {

@@ -9,7 +9,7 @@ use Rattle.acl_names.specs.declared.auth.AuthId.{AuthId}
 use Rattle.acl_stmt.specs.declared.statement.Statement.{Statement}
 use Rattle.acl_stmt.specs.declared.target.Target.{Target}
 use Rattle.grant_parse.specs.Statements.{privilege_rule, user_rule}
-use Rattle.grant_texts.proofs.Disjoint.{free_lacks, lacks, starts, starts_apart, within_is}
+use Rattle.grant_parse.proofs.Disjointness.{free_lacks, lacks, starts, starts_apart, within_is}
 use Rattle.grant_words.proofs.Apart.{are_apart, both_left, both_right, or_first, or_second}
 use Rattle.grant_words.specs.Classes.{Class, is, word}
 use Rattle.grant_words.specs.Classes.Class.{keyword, mark}

@@ -10,8 +10,8 @@ use Rattle.grant_lex.specs.Token.{IsCut}
 use Rattle.grant_lex.specs.declared.sorts.Token.{Token}
 use Rattle.grant_parse.specs.Meaning.{accounts_of}
 use Rattle.grant_parse.specs.Statements.{SpellsRequest, SpellsStatement, privilege_rule, user_rule}
-use Rattle.grant_texts.proofs.Few.{tokens_are_few}
-use Rattle.grant_texts.specs.Texts.{IsSpelled}
+use Rattle.grant_parse.proofs.Few.{tokens_are_few}
+use Rattle.grant_parse.specs.Texts.{IsSpelled}
 use Rattle.grant_words.specs.Lexemes.{lexeme_of, lexemes_of}
 use Rattle.grant_words.specs.Syntax.{grammar_of}
 use Rattle.grant_words.specs.declared.lexeme.Lexeme.{Lexeme}

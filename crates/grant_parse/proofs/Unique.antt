@@ -14,7 +14,7 @@ use Rattle.grant_parse.proofs.Disjoint.{rules_differ}
 use Rattle.grant_parse.specs.Meaning.{MeansRequest, MeansStatement}
 use Rattle.grant_parse.specs.Sanity.{privilege_rule_sane, user_rule_sane}
 use Rattle.grant_parse.specs.Statements.{SpellsRequest, SpellsStatement, privilege_rule, user_rule}
-use Rattle.grant_texts.proofs.Once.{IsUnique}
+use Rattle.grant_parse.proofs.Once.{IsUnique}
 use Rattle.grant_words.specs.Syntax.{grammar_of}
 use Rattle.priv_items.proofs.OneList.{one_list}
 use Rattle.priv_items.specs.Grants.{names_grant_option, without_grant_option}

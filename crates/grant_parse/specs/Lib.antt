@@ -1,3 +1,4 @@
 pub mod Meaning
 pub mod Sanity
 pub mod Statements
+pub mod Texts

@@ -7,7 +7,7 @@ use Rattle.acl_stmt.specs.declared.statement.Statement.{Statement}
 use Rattle.acl_stmt.specs.declared.statement.Statement.TheVariants as statement
 use Rattle.acl_stmt.specs.declared.target.Target.{Target}
 use Rattle.grant_parse.specs.Statements.{SpellsRequest, SpellsStatement}
-use Rattle.grant_texts.specs.Texts.{IsRead, IsRefused}
+use Rattle.grant_parse.specs.Texts.{IsParseRefusal, IsRead}
 use Rattle.acl_names.specs.declared.auth.AuthId.{AuthId}
 use Rattle.grant_refusal.specs.declared.ParseRefusal.{ParseRefusal}
 use Rattle.grant_refusal.specs.declared.ParseRefusal.TheVariants.{Limit, Syntax, WrongLevel, NoMemory}
@@ -59,7 +59,7 @@ IsStatement = IsRead SpellsStatement level_fault MeansStatement
 
 -- why the text is no statement
 abbrev pub IsStatementRefusal : ℕ → List ℕ → ParseRefusal → Type 0
-IsStatementRefusal = IsRefused SpellsStatement level_fault
+IsStatementRefusal = IsParseRefusal SpellsStatement level_fault
 
 abbrev pub request_fault : Named × Target → Option Privilege
 request_fault v = wrong_level v.0 v.1
@@ -73,4 +73,4 @@ IsRequestText = IsRead SpellsRequest request_fault MeansRequest
 
 -- why the text is no request
 abbrev pub IsRequestRefusal : ℕ → List ℕ → ParseRefusal → Type 0
-IsRequestRefusal = IsRefused SpellsRequest request_fault
+IsRequestRefusal = IsParseRefusal SpellsRequest request_fault

@@ -9,14 +9,14 @@ ghost use Rattle.grant_parse.specs.Meaning.{IsRequestRefusal, IsRequestText, IsS
 ghost use Rattle.grant_parse.specs.Statements.{SpellsRequest, SpellsStatement};
 ghost use Rattle.grant_refusal.specs.declared.ParseRefusal.{ParseRefusal};
 ghost use Rattle.grant_refusal.specs.declared.ParseRefusal.TheVariants.{NoMemory};
-ghost use Rattle.grant_texts.specs.Texts.{Answers, IsSpelled, IsSyntaxRefusal, Refuses};
+ghost use Rattle.grant_parse.specs.Texts.{IsSpelled, IsSyntaxRefusal, ReadsAs, RefusesAs};
 
 use crate::meaning::{request_from, statement_from};
+use crate::reading::{read_text, read_text_either};
 use crate::rules::{PrivilegeRule, UserRule};
 use acl_grammar::Either;
 use acl_stmt::{Request, Statement, Target};
 use grant_refusal::ParseRefusal;
-use grant_texts::{read_text, read_text_either};
 use priv_items::Named;
 use privilege_statements::{RawStatement, RequestRule};
 use std::alloc::Global;
@@ -37,11 +37,11 @@ pub fn parse(alloc: Global, text: &str, most: u32) -> Result<Statement, ParseRef
     // The text is the statement, which keeps the rules of statements; a text is no other.
     ensures ok { IfOk result (IsStatement most text.now) }
     ensures kept { IfOk result (λ statement. IsTrue (is_statement statement)) }
-    ensures only { (statement : Statement) → IsStatement most text.now statement → Answers result statement }
+    ensures only { (statement : Statement) → IsStatement most text.now statement → ReadsAs result statement }
 
     // The text has the refusal, and no other.
     ensures err { IfErr result (IsStatementRefusal most text.now) }
-    ensures exact { (refusal : ParseRefusal) → refusal ≢ NoMemory → IsStatementRefusal most text.now refusal → Refuses result refusal }
+    ensures exact { (refusal : ParseRefusal) → refusal ≢ NoMemory → IsStatementRefusal most text.now refusal → RefusesAs result refusal }
 {
     read_statement(alloc, text, most)
 }
@@ -67,11 +67,11 @@ fn read_statement(alloc: Global, text: &str, most: u32) -> Result<Statement, Par
 pub fn parse_request(alloc: Global, text: &str, most: u32) -> Result<Request, ParseRefusal>
     // The text is the request, and no other.
     ensures ok { IfOk result (IsRequestText most text.now) }
-    ensures only { (request : Request) → IsRequestText most text.now request → Answers result request }
+    ensures only { (request : Request) → IsRequestText most text.now request → ReadsAs result request }
 
     // The text has the refusal, and no other.
     ensures err { IfErr result (IsRequestRefusal most text.now) }
-    ensures exact { (refusal : ParseRefusal) → refusal ≢ NoMemory → IsRequestRefusal most text.now refusal → Refuses result refusal }
+    ensures exact { (refusal : ParseRefusal) → refusal ≢ NoMemory → IsRequestRefusal most text.now refusal → RefusesAs result refusal }
 {
     read_request(alloc, text, most)
 }

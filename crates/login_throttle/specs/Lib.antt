@@ -1,3 +1,4 @@
 pub mod History
 pub mod Stamp
+pub mod Steps
 pub mod Tracking

@@ -1,5 +1,5 @@
 -- The rule of failed logins at one account: what an attempt is answered, and what it makes of the stamp.
-use Rattle.std.specs.Prelude.{◌≤◌, ◌+◌, ◌*◌, ◌==◌, ◌&&◌, ℕ, ℤ, pos, ◌+ℤ◌, ◌-ℤ◌, Bool, true, false, not, Option, Some, None, int_lt, unsigned_abs, if◌then◌else◌}
+use Rattle.std.specs.Prelude.{◌≤◌, ◌*◌, ◌==◌, ◌&&◌, ℕ, ℤ, pos, ◌+ℤ◌, ◌-ℤ◌, Bool, true, false, not, Option, Some, None, int_lt, unsigned_abs, if◌then◌else◌}
 use Rattle.acl_names.specs.declared.policy.LockTime.{LockTime}
 use Rattle.acl_names.specs.declared.policy.LockTime.TheVariants.{Days, Unbounded}
 use Rattle.acl_names.specs.declared.policy.Policy.{Policy}
@@ -57,16 +57,3 @@ has_ended policy (Some since) moment = is_tracked policy && not (is_before momen
 -- the stamp as it counts at a moment: once a block has ended, as after a reset
 abbrev pub stamp_at : Policy → Stamp → ℤ → Stamp
 stamp_at policy stamp moment = if has_ended policy stamp.blocked_at moment then fresh else stamp
-
--- the stamp with one wrong password more, which blocks the account where it reaches the number of attempts
-abbrev pub with_failure : Policy → Stamp → ℤ → Stamp
-with_failure policy stamp moment = record {
-  failures = stamp.failures + 1;
-  blocked_at = if stamp.failures + 1 == policy.attempts then Some moment else None;
-}
-
--- what an answer at a moment makes of a stamp: only a wrong password that is counted changes it
-abbrev pub stamp_after : Policy → Stamp → ℤ → Tried → Stamp
-stamp_after policy stamp moment Open = stamp
-stamp_after policy stamp moment Wrong = if is_tracked policy then with_failure policy stamp moment else stamp
-stamp_after policy stamp moment (Blocked left) = stamp

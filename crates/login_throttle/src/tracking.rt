@@ -1,7 +1,9 @@
 //! What an attempt to log in is answered, and what it leaves.
-ghost use Rattle.std.specs.Prelude.{◌≡◌, ◌<◌, ◌≤◌, ◌≤ℤ◌, IsTrue, if◌then◌else◌};
+ghost use Rattle.std.specs.Prelude.{◌≡◌, ◌<◌, ◌≤◌, ◌≤ℤ◌, ℤ, List, ◌∷◌, false, IsTrue, if◌then◌else◌};
 ghost use Rattle.std.specs.Option.{ForSome};
-ghost use Rattle.login_throttle.specs.Tracking.{IsWithinLimit, answer_of, is_before, is_tracked, opens_at, seconds_until, stamp_after, stamp_at};
+ghost use Rattle.login_throttle.specs.Steps.{stamp_after};
+ghost use Rattle.login_throttle.specs.History.{Answered, Event, ShowsCount, blocking_failure};
+ghost use Rattle.login_throttle.specs.Tracking.{IsWithinLimit, answer_of, is_before, is_blocked, is_tracked, opens_at, seconds_until, stamp_at};
 
 use crate::stamp::{Stamp, reset};
 use acl_names::{LockTime, Policy};
@@ -59,7 +61,30 @@ pub fn attempt(policy: Policy, stamp: &mut Stamp, moment: i64, right: bool) -> T
     requires failures { IsTrue (is_tracked policy) → stamp.old.blocked_at ≡ None →
         stamp.old.failures < policy.attempts }
     ensures answer { result ≡ answer_of policy stamp.old.blocked_at moment right }
+    ensures by_count { (past : List Event) → ShowsCount policy past stamp.old moment →
+        result ≡ answer_of policy (blocking_failure policy past) moment right }
+    ensures count { IsTrue (is_tracked policy) → (past : List Event) → ShowsCount policy past stamp.old moment →
+        (later : ℤ) → moment ≤ℤ later → ShowsCount policy (Answered moment result ∷ past) stamp.new later }
+    ensures blocked { IsTrue (is_blocked policy stamp.old.blocked_at moment) → stamp.new ≡ stamp.old }
+    ensures untracked { is_tracked policy ≡ false → stamp.new ≡ stamp.old }
+    ensures moment { ForSome stamp.new.blocked_at (λ since. since ≤ℤ moment) }
+    ensures failures { IsTrue (is_tracked policy) → stamp.new.blocked_at ≡ None →
+        stamp.new.failures < policy.attempts }
+{
+    step(policy, stamp, moment, right)
+}
+
+fn step(policy: Policy, stamp: &mut Stamp, moment: i64, right: bool) -> Tried
+    requires attempts { policy.attempts ≤ 32767 }
+    requires days { IsWithinLimit policy.days }
+    requires moment { ForSome stamp.old.blocked_at (λ since. since ≤ℤ moment) }
+    requires failures { IsTrue (is_tracked policy) → stamp.old.blocked_at ≡ None →
+        stamp.old.failures < policy.attempts }
+    ensures answer { result ≡ answer_of policy stamp.old.blocked_at moment right }
     ensures stamp { stamp.new ≡ stamp_after policy (stamp_at policy stamp.old moment) moment result }
+    ensures moment { ForSome stamp.new.blocked_at (λ since. since ≤ℤ moment) }
+    ensures failures { IsTrue (is_tracked policy) → stamp.new.blocked_at ≡ None →
+        stamp.new.failures < policy.attempts }
 {
     if counts_failures(policy) {
         if let Some(since) = stamp.blocked_at {

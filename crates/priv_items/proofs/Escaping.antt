@@ -1,10 +1,10 @@
 -- Reading and writing escaped wildcards.
 use Rattle.std.proofs.Common.{◌≡◌, ℕ, ◌<◌, ◌≤◌, ◌^◌, ◌==◌, Bool, true, false, if◌then◌else◌, List, [], ◌∷◌, ◌++◌, length, get_or, ◌≢◌, suc, not, ◌&&◌, ◌||◌, append-nil, append_assoc, encode_utf8_all, inl, inr, ap, ◌∙◌, refl, sym, arith}
 use Rattle.std.proofs.lemmas.Bool.Decides.{nat_tests}
-use Rattle.std.proofs.lemmas.Bool.{cases_lt, ne_eqb}
+use Rattle.std.proofs.lemmas.Bool.{and_parts, cases_lt, eqb-true, ne_eqb}
 use Rattle.std.proofs.lemmas.Str.{byte_from_char, encodes-append, inside_one, len_utf8_bounds, length-encode}
 use Rattle.std.specs.Char.{encode_utf8}
-use Rattle.priv_items.specs.Escapes.{begins_with_wildcard, escaped, held_back, is_escape, unescaped}
+use Rattle.priv_items.specs.Escapes.{begins_with_wildcard, escaped, escaped_behind, held_back, is_escape, is_wildcard, unescaped}
 
 -- the text is no longer than what it was written as
 length-unescaped : (text : List ℕ) → length (unescaped text) ≤ length text
@@ -16,18 +16,42 @@ length-unescaped (byte ∷ rest) =
 pub unescaped_is_short : (text : List ℕ) → length text < 2 ^ 32 → length (unescaped text) < 2 ^ 32
 unescaped_is_short text short = let shorter = length-unescaped text in omega arith
 
+-- the same text, read ahead: a backslash right before a wildcard is doubled
+abbrev doubled : List ℕ → List ℕ
+doubled [] = []
+doubled (byte ∷ rest) = if is_escape byte rest then byte ∷ byte ∷ doubled rest else byte ∷ doubled rest
+
 -- the first byte stays the first
-begins-escaped : (text : List ℕ) → begins_with_wildcard (escaped text) ≡ begins_with_wildcard text
-begins-escaped [] = refl
-begins-escaped (byte ∷ rest) =
-    elim (is_escape byte rest) as (λ t. begins_with_wildcard (if t then byte ∷ byte ∷ escaped rest else byte ∷ escaped rest) ≡ begins_with_wildcard (byte ∷ rest)) [ true ↦ refl | false ↦ refl ]
+begins-doubled : (text : List ℕ) → begins_with_wildcard (doubled text) ≡ begins_with_wildcard text
+begins-doubled [] = refl
+begins-doubled (byte ∷ rest) =
+    elim (is_escape byte rest) as (λ t. begins_with_wildcard (if t then byte ∷ byte ∷ doubled rest else byte ∷ doubled rest) ≡ begins_with_wildcard (byte ∷ rest)) [ true ↦ refl | false ↦ refl ]
+
+unescaped-doubled : (name : List ℕ) → unescaped (doubled name) ≡ name
+unescaped-doubled [] = refl
+unescaped-doubled (byte ∷ rest) =
+    let same = unescaped-doubled rest in
+    let first = begins-doubled rest in
+    grind (arith, nat_tests)
+
+one_step : (first second : Bool) (byte : ℕ) (rest : List ℕ) → (second ≡ true → byte ≡ 92)
+    → (if first then 92 ∷ byte ∷ [] else byte ∷ []) ++ (if second then 92 ∷ rest else rest)
+    ≡ (if first then 92 ∷ (if second then byte ∷ byte ∷ rest else byte ∷ rest) else (if second then byte ∷ byte ∷ rest else byte ∷ rest))
+one_step true true byte rest is = ap (λ b. 92 ∷ byte ∷ b ∷ rest) (sym (is refl))
+one_step true false byte rest is = refl
+one_step false true byte rest is = ap (λ b. byte ∷ b ∷ rest) (sym (is refl))
+one_step false false byte rest is = refl
+
+-- wherever the text is cut
+escaped_ahead : (after : Bool) (text : List ℕ) → escaped_behind after text ≡ (if after && begins_with_wildcard text then 92 ∷ doubled text else doubled text)
+escaped_ahead true [] = refl
+escaped_ahead false [] = refl
+escaped_ahead after (byte ∷ rest) =
+    ap (λ more. (if after && is_wildcard byte then 92 ∷ byte ∷ [] else byte ∷ []) ++ more) (escaped_ahead (byte == 92) rest)
+    ∙ one_step (after && is_wildcard byte) (byte == 92 && begins_with_wildcard rest) byte (doubled rest) (λ both. eqb-true byte 92 (and_parts (byte == 92) (begins_with_wildcard rest) both).0)
 
 pub unescaped-escaped : (name : List ℕ) → unescaped (escaped name) ≡ name
-unescaped-escaped [] = refl
-unescaped-escaped (byte ∷ rest) =
-    let same = unescaped-escaped rest in
-    let first = begins-escaped rest in
-    grind (arith, nat_tests)
+unescaped-escaped name = ap unescaped (escaped_ahead false name) ∙ unescaped-doubled name
 
 -- bytes that are no backslash stay
 unescaped-none : (text rest : List ℕ) → ((i : ℕ) → i < length text → get_or text i 0 ≢ 92) → unescaped (text ++ rest) ≡ text ++ unescaped rest

@@ -23,7 +23,7 @@ use Rattle.priv_items.proofs.EachOnce.{each_once-differ}
 use Rattle.priv_items.proofs.Lists.{no_bits, rules_of}
 use Rattle.priv_items.proofs.NamedColumns.{no_level_above}
 use Rattle.priv_items.proofs.OneList.{order_rest, own_columns, other_columns}
-use Rattle.priv_items.specs.Canonical.{column_item, dynamic_items_of, items_below, items_of, listed_if, or_usage, static_items_of}
+use Rattle.priv_items.specs.Canonical.{columns_at, dynamic_at, each_below, item_itself, items_of, listed_by, member_if, or_usage, static_at}
 use Rattle.priv_items.specs.Meaning.{IsMeant, columns_on, each_once, names_on}
 use Rattle.priv_items.specs.Naming.{columns_in, columns_of, is_dynamic, is_plain, names_dynamic, names_plain}
 use Rattle.priv_items.specs.declared.item.Item.{Item}
@@ -46,25 +46,25 @@ column_rules listed =
     record { level = second.0; lower = fourth.1; differ = fifth.1 }
 
 -- USAGE names nothing
-plain-or_usage : (items : List Item) (q : ℕ) → names_plain (or_usage items) q ≡ names_plain items q
+plain-or_usage : (items : List Item) (q : ℕ) → names_plain (or_usage item_itself items) q ≡ names_plain items q
 plain-or_usage [] q = refl
 plain-or_usage (item ∷ items) q = refl
 
-dynamic-or_usage : (items : List Item) (q : ℕ) → names_dynamic (or_usage items) q ≡ names_dynamic items q
+dynamic-or_usage : (items : List Item) (q : ℕ) → names_dynamic (or_usage item_itself items) q ≡ names_dynamic items q
 dynamic-or_usage [] q = refl
 dynamic-or_usage (item ∷ items) q = refl
 
-columns-or_usage : (items : List Item) (q : ℕ) → columns_of (or_usage items) q ≡ columns_of items q
+columns-or_usage : (items : List Item) (q : ℕ) → columns_of (or_usage item_itself items) q ≡ columns_of items q
 columns-or_usage [] q = refl
 columns-or_usage (item ∷ items) q = refl
 
 -- what a test finds among the items of each number below a limit, where it finds those of its own number alone
 any_below : (limit q : ℕ) (test : Item → Bool) (items_at : ℕ → List Item) (held : ℕ → Bool) → ((n : ℕ) → list_any test (items_at n) ≡ (held n && q == n))
-    → list_any test (items_below limit items_at) ≡ (nat_lt q limit && held q)
-unfolding items_below
+    → list_any test (each_below limit items_at) ≡ (nat_lt q limit && held q)
+unfolding each_below
 any_below zero q test items_at held own = sym (and_left (nat_lt q 0) (held q) (le-ltb q 0 (omega arith)))
 any_below (suc limit) q test items_at held own =
-    list_any-append test (items_below limit items_at) (items_at limit)
+    list_any-append test (each_below limit items_at) (items_at limit)
     ∙ (λ i. any_below limit q test items_at held own i || own limit i)
     ∙ elim (cases_lt q limit) [
       | inl below ↦
@@ -88,61 +88,61 @@ any_below (suc limit) q test items_at held own =
     and_all true = refl
     and_all false = refl
 
-none_below : (limit : ℕ) (test : Item → Bool) (items_at : ℕ → List Item) → ((n : ℕ) → list_any test (items_at n) ≡ false) → list_any test (items_below limit items_at) ≡ false
-unfolding items_below
+none_below : (limit : ℕ) (test : Item → Bool) (items_at : ℕ → List Item) → ((n : ℕ) → list_any test (items_at n) ≡ false) → list_any test (each_below limit items_at) ≡ false
+unfolding each_below
 none_below zero test items_at none = refl
 none_below (suc limit) test items_at none =
-    list_any-append test (items_below limit items_at) (items_at limit) ∙ (λ i. none_below limit test items_at none i || none limit i)
+    list_any-append test (each_below limit items_at) (items_at limit) ∙ (λ i. none_below limit test items_at none i || none limit i)
 
 -- the items of one number
 no_test_in_columns : (test : Item → Bool) (n : ℕ) (lists : List ColumnPriv) → ((privilege : ℕ) (columns : List (List ℕ)) → test (Columns privilege columns) ≡ false)
-    → list_any test (flat_map (column_item n) lists) ≡ false
+    → list_any test (flat_map (columns_at item_itself n) lists) ≡ false
 no_test_in_columns test n [] none = refl
 no_test_in_columns test n (x ∷ xs) none =
-    list_any-append test (column_item n x) (flat_map (column_item n) xs)
+    list_any-append test (columns_at item_itself n x) (flat_map (columns_at item_itself n) xs)
     ∙ (λ i. first (n == x.privilege) i || no_test_in_columns test n xs none i)
   where
-    first : (b : Bool) → list_any test (listed_if b (Columns x.privilege x.names)) ≡ false
+    first : (b : Bool) → list_any test (member_if b (Columns x.privilege x.names)) ≡ false
     first true = ap (λ found. found || false) (none x.privilege x.names)
     first false = refl
 
-plain_at : (list : PrivList) (q n : ℕ) → names_plain (static_items_of list n) q ≡ (holds list.plain n && q == n)
+plain_at : (list : PrivList) (q n : ℕ) → names_plain (static_at item_itself list n) q ≡ (holds list.plain n && q == n)
 plain_at list q n =
-    list_any-append (is_plain q) (listed_if (holds list.plain n) (Plain n)) (flat_map (column_item n) list.columns)
+    list_any-append (is_plain q) (member_if (holds list.plain n) (Plain n)) (flat_map (columns_at item_itself n) list.columns)
     ∙ (λ i. own (holds list.plain n) i || no_test_in_columns (is_plain q) n list.columns (λ privilege columns. refl) i) ∙ or_none (holds list.plain n && q == n)
   where
     or_none : (x : Bool) → (x || false) ≡ x
     or_none true = refl
     or_none false = refl
 
-    own : (b : Bool) → list_any (is_plain q) (listed_if b (Plain n)) ≡ (b && q == n)
+    own : (b : Bool) → list_any (is_plain q) (member_if b (Plain n)) ≡ (b && q == n)
     own true = or_none (q == n)
     own false = refl
 
-dynamic_not_at : (list : PrivList) (q n : ℕ) → names_dynamic (static_items_of list n) q ≡ false
+dynamic_not_at : (list : PrivList) (q n : ℕ) → names_dynamic (static_at item_itself list n) q ≡ false
 dynamic_not_at list q n =
-    list_any-append (is_dynamic q) (listed_if (holds list.plain n) (Plain n)) (flat_map (column_item n) list.columns)
+    list_any-append (is_dynamic q) (member_if (holds list.plain n) (Plain n)) (flat_map (columns_at item_itself n) list.columns)
     ∙ (λ i. own (holds list.plain n) i || no_test_in_columns (is_dynamic q) n list.columns (λ privilege columns. refl) i)
   where
-    own : (b : Bool) → list_any (is_dynamic q) (listed_if b (Plain n)) ≡ false
+    own : (b : Bool) → list_any (is_dynamic q) (member_if b (Plain n)) ≡ false
     own true = refl
     own false = refl
 
-dynamic_at : (list : PrivList) (q n : ℕ) → names_dynamic (dynamic_items_of list n) q ≡ (bit_at list.dynamic n == 1 && q == n)
-dynamic_at list q n = own (bit_at list.dynamic n == 1)
+dynamic_named_at : (list : PrivList) (q n : ℕ) → names_dynamic (dynamic_at item_itself list.dynamic n) q ≡ (bit_at list.dynamic n == 1 && q == n)
+dynamic_named_at list q n = own (bit_at list.dynamic n == 1)
   where
     or_none : (x : Bool) → (x || false) ≡ x
     or_none true = refl
     or_none false = refl
 
-    own : (b : Bool) → list_any (is_dynamic q) (listed_if b (Dynamic n)) ≡ (b && q == n)
+    own : (b : Bool) → list_any (is_dynamic q) (member_if b (Dynamic n)) ≡ (b && q == n)
     own true = or_none (q == n)
     own false = refl
 
-plain_not_at : (list : PrivList) (q n : ℕ) → names_plain (dynamic_items_of list n) q ≡ false
+plain_not_at : (list : PrivList) (q n : ℕ) → names_plain (dynamic_at item_itself list.dynamic n) q ≡ false
 plain_not_at list q n = own (bit_at list.dynamic n == 1)
   where
-    own : (b : Bool) → list_any (is_plain q) (listed_if b (Dynamic n)) ≡ false
+    own : (b : Bool) → list_any (is_plain q) (member_if b (Dynamic n)) ≡ false
     own true = refl
     own false = refl
 
@@ -153,10 +153,10 @@ lower_stays (x ∷ xs) lower =
     let parts = and_parts (is_lower x) (list_all is_lower xs) lower in
     λ i. equal_from_text_eq (str_to_ascii_lowercase x) x parts.0 i ∷ lower_stays xs parts.1 i
 
-one_item : (x : ColumnPriv) (q n : ℕ) → columns_of (column_item n x) q ≡ (if q == n then names_on q x else [])
+one_item : (x : ColumnPriv) (q n : ℕ) → columns_of (columns_at item_itself n x) q ≡ (if q == n then names_on q x else [])
 one_item x q n = listed_or_none (n == x.privilege) ∙ by (n == x.privilege) (q == x.privilege) (q == n) refl refl refl
   where
-    listed_or_none : (b : Bool) → columns_of (listed_if b (Columns x.privilege x.names)) q ≡ (if b then (if q == x.privilege then map str_to_ascii_lowercase x.names else []) else [])
+    listed_or_none : (b : Bool) → columns_of (member_if b (Columns x.privilege x.names)) q ≡ (if b then (if q == x.privilege then map str_to_ascii_lowercase x.names else []) else [])
     listed_or_none true = append-nil (if q == x.privilege then map str_to_ascii_lowercase x.names else [])
     listed_or_none false = refl
 
@@ -171,8 +171,8 @@ one_item x q n = listed_or_none (n == x.privilege) ∙ by (n == x.privilege) (q 
     by false false true p r s = refl
     by false false false p r s = refl
 
-columns_at : (lists : List ColumnPriv) (q n : ℕ) → columns_of (flat_map (column_item n) lists) q ≡ (if q == n then columns_on lists q else [])
-columns_at [] q n = by (q == n)
+columns_named_at : (lists : List ColumnPriv) (q n : ℕ) → columns_of (flat_map (columns_at item_itself n) lists) q ≡ (if q == n then columns_on lists q else [])
+columns_named_at [] q n = by (q == n)
   where
     nothing : List (List ℕ)
     nothing = []
@@ -180,24 +180,24 @@ columns_at [] q n = by (q == n)
     by : (b : Bool) → nothing ≡ (if b then nothing else nothing)
     by true = refl
     by false = refl
-columns_at (x ∷ xs) q n =
-    flat_map-append (columns_in q) (column_item n x) (flat_map (column_item n) xs) ∙ (λ i. one_item x q n i ++ columns_at xs q n i)
+columns_named_at (x ∷ xs) q n =
+    flat_map-append (columns_in q) (columns_at item_itself n x) (flat_map (columns_at item_itself n) xs) ∙ (λ i. one_item x q n i ++ columns_named_at xs q n i)
     ∙ elim (q == n) as (λ t. (if t then names_on q x else []) ++ (if t then columns_on xs q else []) ≡ (if t then names_on q x ++ columns_on xs q else [])) [ true ↦ refl | false ↦ refl ]
 
-static_columns_at : (list : PrivList) (q n : ℕ) → columns_of (static_items_of list n) q ≡ (if q == n then columns_on list.columns q else [])
+static_columns_at : (list : PrivList) (q n : ℕ) → columns_of (static_at item_itself list n) q ≡ (if q == n then columns_on list.columns q else [])
 static_columns_at list q n =
-    flat_map-append (columns_in q) (listed_if (holds list.plain n) (Plain n)) (flat_map (column_item n) list.columns)
-    ∙ (λ i. own (holds list.plain n) i ++ columns_at list.columns q n i)
+    flat_map-append (columns_in q) (member_if (holds list.plain n) (Plain n)) (flat_map (columns_at item_itself n) list.columns)
+    ∙ (λ i. own (holds list.plain n) i ++ columns_named_at list.columns q n i)
   where
-    own : (b : Bool) → columns_of (listed_if b (Plain n)) q ≡ []
+    own : (b : Bool) → columns_of (member_if b (Plain n)) q ≡ []
     own true = refl
     own false = refl
 
-columns_below : (limit q : ℕ) (list : PrivList) → columns_of (items_below limit (static_items_of list)) q ≡ (if nat_lt q limit then columns_on list.columns q else [])
-unfolding items_below
+columns_below : (limit q : ℕ) (list : PrivList) → columns_of (each_below limit (static_at item_itself list)) q ≡ (if nat_lt q limit then columns_on list.columns q else [])
+unfolding each_below
 columns_below zero q list = sym (λ i. if le-ltb q 0 (omega arith) i then columns_on list.columns q else [])
 columns_below (suc limit) q list =
-    flat_map-append (columns_in q) (items_below limit (static_items_of list)) (static_items_of list limit)
+    flat_map-append (columns_in q) (each_below limit (static_at item_itself list)) (static_at item_itself list limit)
     ∙ (λ i. columns_below limit q list i ++ static_columns_at list q limit i)
     ∙ elim (cases_lt q limit) [
       | inl below ↦
@@ -213,14 +213,14 @@ columns_below (suc limit) q list =
       ]
     ]
 
-no_columns_below : (limit q : ℕ) (list : PrivList) → columns_of (items_below limit (dynamic_items_of list)) q ≡ []
-unfolding items_below
+no_columns_below : (limit q : ℕ) (list : PrivList) → columns_of (each_below limit (dynamic_at item_itself list.dynamic)) q ≡ []
+unfolding each_below
 no_columns_below zero q list = refl
 no_columns_below (suc limit) q list =
-    flat_map-append (columns_in q) (items_below limit (dynamic_items_of list)) (dynamic_items_of list limit)
+    flat_map-append (columns_in q) (each_below limit (dynamic_at item_itself list.dynamic)) (dynamic_at item_itself list.dynamic limit)
     ∙ (λ i. no_columns_below limit q list i ++ own (bit_at list.dynamic limit == 1) i)
   where
-    own : (b : Bool) → columns_of (listed_if b (Dynamic limit)) q ≡ []
+    own : (b : Bool) → columns_of (member_if b (Dynamic limit)) q ≡ []
     own true = refl
     own false = refl
 
@@ -281,22 +281,22 @@ own_all list all =
       dynamic = λ q. ap (λ bits. bit_at bits q == 1) (eqb-true list.dynamic 0 outer.1) ∙ zero_bits q;
     }
 
-own_listed : (list : PrivList) → list.all ≡ false → IsMeant (Listed (or_usage (items_below 31 (static_items_of list) ++ items_below 20 (dynamic_items_of list)))) list
+own_listed : (list : PrivList) → list.all ≡ false → IsMeant (Listed (listed_by item_itself list)) list
 own_listed list all =
     let rules = rules_of list.all list.plain list.columns list.dynamic list.listed in
-    let statics : List Item = items_below 31 (static_items_of list) in
-    let dynamics : List Item = items_below 20 (dynamic_items_of list) in
+    let statics : List Item = each_below 31 (static_at item_itself list) in
+    let dynamics : List Item = each_below 20 (dynamic_at item_itself list.dynamic) in
     record {
       all = all;
       plain = λ q. sym (plain-or_usage (statics ++ dynamics) q ∙ list_any-append (is_plain q) statics dynamics
-          ∙ (λ i. any_below 31 q (is_plain q) (static_items_of list) (holds list.plain) (plain_at list q) i || none_below 20 (is_plain q) (dynamic_items_of list) (plain_not_at list q) i)
+          ∙ (λ i. any_below 31 q (is_plain q) (static_at item_itself list) (holds list.plain) (plain_at list q) i || none_below 20 (is_plain q) (dynamic_at item_itself list.dynamic) (plain_not_at list q) i)
           ∙ or_none (nat_lt q 31 && holds list.plain q) ∙ within 31 q (holds list.plain q) (no_plain_above list.plain q rules.known));
       columns = λ q. sym (ap each_once (columns-or_usage (statics ++ dynamics) q ∙ flat_map-append (columns_in q) statics dynamics
           ∙ (λ i. columns_below 31 q list i ++ no_columns_below 20 q list i)
           ∙ append-nil (if nat_lt q 31 then columns_on list.columns q else []) ∙ columns_within_all list.columns q)
           ∙ each_once-differ (columns_on list.columns q) (columns_differ list.columns q rules.order));
       dynamic = λ q. sym (dynamic-or_usage (statics ++ dynamics) q ∙ list_any-append (is_dynamic q) statics dynamics
-          ∙ (λ i. none_below 31 (is_dynamic q) (static_items_of list) (dynamic_not_at list q) i || any_below 20 q (is_dynamic q) (dynamic_items_of list) (λ n. bit_at list.dynamic n == 1) (dynamic_at list q) i)
+          ∙ (λ i. none_below 31 (is_dynamic q) (static_at item_itself list) (dynamic_not_at list q) i || any_below 20 q (is_dynamic q) (dynamic_at item_itself list.dynamic) (λ n. bit_at list.dynamic n == 1) (dynamic_named_at list q) i)
           ∙ within 20 q (bit_at list.dynamic q == 1) (no_dynamic_above list.dynamic q rules.below));
     }
   where
@@ -307,6 +307,6 @@ own_listed list all =
 pub own_items : (list : PrivList) → IsMeant (items_of list) list
 own_items list = by list.all refl
   where
-    by : (all : Bool) → list.all ≡ all → IsMeant (if all then All else Listed (or_usage (items_below 31 (static_items_of list) ++ items_below 20 (dynamic_items_of list)))) list
+    by : (all : Bool) → list.all ≡ all → IsMeant (if all then All else Listed (listed_by item_itself list)) list
     by true all = own_all list all
     by false all = own_listed list all

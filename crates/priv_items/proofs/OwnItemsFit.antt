@@ -20,7 +20,7 @@ use Rattle.priv_sets.specs.declared.level.Level.TheVariants.{Column}
 use Rattle.priv_sets.specs.declared.privilege.Privilege.TheVariants as privilege
 use Rattle.priv_items.proofs.Fits.{neither}
 use Rattle.priv_items.proofs.OwnItems.{column_rules}
-use Rattle.priv_items.specs.Canonical.{column_item, dynamic_items_of, items_below, items_of, listed_if, or_usage, static_items_of}
+use Rattle.priv_items.specs.Canonical.{columns_at, dynamic_at, each_below, item_itself, items_of, listed_by, member_if, or_usage, static_at}
 use Rattle.priv_items.specs.LevelRefusals.{first_wrong, or_else, unless, wrong_in, wrong_level}
 use Rattle.priv_items.specs.Lowered.{lowered_target}
 use Rattle.priv_items.specs.declared.item.Item.{Item}
@@ -33,13 +33,13 @@ both_fit target (item ∷ items) rest none others =
     let parts = neither (wrong_in target item) (first_wrong target items) none in
     ap (λ wrong. or_else wrong (first_wrong target (items ++ rest))) parts.0 ∙ both_fit target items rest parts.1 others
 
-below_fit : (target : Target) (limit : ℕ) (items_at : ℕ → List Item) → ((n : ℕ) → n < limit → first_wrong target (items_at n) ≡ None) → first_wrong target (items_below limit items_at) ≡ None
-unfolding items_below
+below_fit : (target : Target) (limit : ℕ) (items_at : ℕ → List Item) → ((n : ℕ) → n < limit → first_wrong target (items_at n) ≡ None) → first_wrong target (each_below limit items_at) ≡ None
+unfolding each_below
 below_fit target zero items_at fit = refl
 below_fit target (suc limit) items_at fit =
-    both_fit target (items_below limit items_at) (items_at limit) (below_fit target limit items_at (λ n below. fit n (omega arith))) (fit limit (omega arith))
+    both_fit target (each_below limit items_at) (items_at limit) (below_fit target limit items_at (λ n below. fit n (omega arith))) (fit limit (omega arith))
 
-usage_fits : (target : Target) (items : List Item) → first_wrong target items ≡ None → first_wrong target (or_usage items) ≡ None
+usage_fits : (target : Target) (items : List Item) → first_wrong target items ≡ None → first_wrong target (or_usage item_itself items) ≡ None
 usage_fits target [] none = refl
 usage_fits target (item ∷ items) none = none
 
@@ -53,24 +53,24 @@ one_of_all (suc limit) test n every below =
       | inr other ↦ one_of_all limit test n parts.0 (omega arith)
     ]
 
-plain_item_fits : (target : Target) (n : ℕ) (held : Bool) → (not held || has_level (level_of target) n) ≡ true → first_wrong target (listed_if held (Plain n)) ≡ None
+plain_item_fits : (target : Target) (n : ℕ) (held : Bool) → (not held || has_level (level_of target) n) ≡ true → first_wrong target (member_if held (Plain n)) ≡ None
 plain_item_fits target n true level = ap (λ granted. or_else (unless granted (privilege.Plain n)) None) level
 plain_item_fits target n false level = refl
 
-column_item_fits : (target : Target) (x : ColumnPriv) (named : Bool) → is_table target ≡ true → first_wrong target (listed_if named (Columns x.privilege x.names)) ≡ None
+column_item_fits : (target : Target) (x : ColumnPriv) (named : Bool) → is_table target ≡ true → first_wrong target (member_if named (Columns x.privilege x.names)) ≡ None
 column_item_fits target x true table =
     ap (λ granted. or_else (unless granted (privilege.Plain x.privilege)) None) (and_from (has_level Column x.privilege) (is_table target) (column_rules x).level table)
 column_item_fits target x false table = refl
 
-columns_items_fit : (target : Target) (n : ℕ) (lists : List ColumnPriv) → (is_no_list lists || is_table target) ≡ true → first_wrong target (flat_map (column_item n) lists) ≡ None
+columns_items_fit : (target : Target) (n : ℕ) (lists : List ColumnPriv) → (is_no_list lists || is_table target) ≡ true → first_wrong target (flat_map (columns_at item_itself n) lists) ≡ None
 columns_items_fit target n [] table = refl
 columns_items_fit target n (x ∷ xs) table =
-    both_fit target (column_item n x) (flat_map (column_item n) xs) (column_item_fits target x (n == x.privilege) table) (columns_items_fit target n xs (ap (λ t. is_no_list xs || t) table ∙ or_right (is_no_list xs) true refl))
+    both_fit target (columns_at item_itself n x) (flat_map (columns_at item_itself n) xs) (column_item_fits target x (n == x.privilege) table) (columns_items_fit target n xs (ap (λ t. is_no_list xs || t) table ∙ or_right (is_no_list xs) true refl))
 
-dynamic_item_fits : (target : Target) (n : ℕ) (dynamic : ℕ) → (dynamic == 0 || is_global_level (level_of target)) ≡ true → first_wrong target (listed_if (bit_at dynamic n == 1) (Dynamic n)) ≡ None
+dynamic_item_fits : (target : Target) (n : ℕ) (dynamic : ℕ) → (dynamic == 0 || is_global_level (level_of target)) ≡ true → first_wrong target (member_if (bit_at dynamic n == 1) (Dynamic n)) ≡ None
 dynamic_item_fits target n dynamic level = by (bit_at dynamic n == 1) (dynamic == 0) refl refl level
   where
-    by : (held none : Bool) → (bit_at dynamic n == 1) ≡ held → (dynamic == 0) ≡ none → (none || is_global_level (level_of target)) ≡ true → first_wrong target (listed_if held (Dynamic n)) ≡ None
+    by : (held none : Bool) → (bit_at dynamic n == 1) ≡ held → (dynamic == 0) ≡ none → (none || is_global_level (level_of target)) ≡ true → first_wrong target (member_if held (Dynamic n)) ≡ None
     by false none p r level = refl
     by true true p r level = absurd (true≢false (sym p ∙ ap (λ bits. bit_at bits n == 1) (eqb-true dynamic 0 r) ∙ zero_bits n))
     by true false p r level = ap (λ granted. or_else (unless granted (privilege.Dynamic n)) None) level
@@ -81,15 +81,15 @@ own_items_fit_target list target fits =
     let levels = and_parts (have_levels list target) (is_target target) fits in
     let outer = and_parts _ _ levels.0 in
     let inner = and_parts _ _ outer.0 in
-    let statics = below_fit target 31 (static_items_of list) (λ n below. both_fit target (listed_if (holds list.plain n) (Plain n)) (flat_map (column_item n) list.columns)
+    let statics = below_fit target 31 (static_at item_itself list) (λ n below. both_fit target (member_if (holds list.plain n) (Plain n)) (flat_map (columns_at item_itself n) list.columns)
     (plain_item_fits target n (holds list.plain n) (one_of_all 31 (λ q. not (holds list.plain q) || has_level (level_of target) q) n inner.0 below))
     (columns_items_fit target n list.columns inner.1)) in
-    let dynamics = below_fit target 20 (dynamic_items_of list) (λ n below. dynamic_item_fits target n list.dynamic outer.1) in
-    by list.all (usage_fits target (items_below 31 (static_items_of list) ++ items_below 20 (dynamic_items_of list))
-    (both_fit target (items_below 31 (static_items_of list)) (items_below 20 (dynamic_items_of list)) statics dynamics))
+    let dynamics = below_fit target 20 (dynamic_at item_itself list.dynamic) (λ n below. dynamic_item_fits target n list.dynamic outer.1) in
+    by list.all (usage_fits target (each_below 31 (static_at item_itself list) ++ each_below 20 (dynamic_at item_itself list.dynamic))
+    (both_fit target (each_below 31 (static_at item_itself list)) (each_below 20 (dynamic_at item_itself list.dynamic)) statics dynamics))
   where
-    by : (all : Bool) → first_wrong target (or_usage (items_below 31 (static_items_of list) ++ items_below 20 (dynamic_items_of list))) ≡ None
-        → wrong_level (if all then All else Listed (or_usage (items_below 31 (static_items_of list) ++ items_below 20 (dynamic_items_of list)))) target ≡ None
+    by : (all : Bool) → first_wrong target (listed_by item_itself list) ≡ None
+        → wrong_level (if all then All else Listed (listed_by item_itself list)) target ≡ None
     by true none = refl
     by false none = none
 

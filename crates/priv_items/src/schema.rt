@@ -1,7 +1,7 @@
 ghost use Rattle.std.specs.Prelude.{◌≡◌, ℕ, ◌<◌, ◌^◌, ◌++◌, ◌==◌, ◌&&◌, ◌||◌, not, List, [], ◌∷◌, if◌then◌else◌, None, length, string_bytes, IfErr, IfOk, OnOk};
 ghost use Rattle.std.specs.Char.{encode_utf8};
+ghost use Rattle.acl_names.specs.Limits.{ident_limit};
 ghost use Rattle.acl_names.specs.Name.{IsRefusal, ident_fault};
-ghost use Rattle.acl_names.specs.declared.ident.TheConstants.{IDENT_LIMIT};
 ghost use Rattle.priv_items.specs.Escapes.{held_back, unescaped};
 
 use acl_names::{Ident, NameRefusal};
@@ -15,8 +15,8 @@ use std::alloc::{AllocError, Global};
 pub fn read_schema(alloc: Global, text: &str) -> Result<Ident, NameRefusal>
     requires { length text.now < 2 ^ 32 }
     ensures ok { IfOk result (λ name. name ≡ unescaped text.now) }
-    ensures within { OnOk result (ident_fault IDENT_LIMIT (unescaped text.now) ≡ None) }
-    ensures err { IfErr result (IsRefusal (ident_fault IDENT_LIMIT (unescaped text.now))) }
+    ensures within { OnOk result (ident_fault ident_limit (unescaped text.now) ≡ None) }
+    ensures err { IfErr result (IsRefusal (ident_fault ident_limit (unescaped text.now))) }
 {
     let name = unescaped(alloc, text).map_err(|_| NameRefusal::NoMemory)?;
     Ident::read(alloc, name.as_str())

@@ -35,7 +35,7 @@ static NAMES: [&str; 20] = [
 /// bytes.
 ///
 /// MySQL 8.0 Reference Manual, "Privileges Provided by MySQL", "Dynamic Privilege Descriptions".
-#[derive(Clone, Copy, Debug, PartialEq, Eq, PartialOrd, Ord, Hash)]
+#[derive(Clone, Copy, Debug, PartialEq, Eq, Hash)]
 pub struct Dynamic {
     number: u8,
 }

@@ -2,7 +2,7 @@
 ghost use Rattle.std.specs.Prelude.{◌≡◌, ◌≢◌, ℕ, ◌<◌, ◌↔◌, IsTrue, IsNone, IfSome, Some, map};
 ghost use Rattle.std.specs.Fmt.{padded};
 ghost use Rattle.std.specs.Str.{str_to_ascii_uppercase};
-ghost use Rattle.priv_sets.specs.Levels.{has_level};
+ghost use Rattle.priv_sets.specs.Levels.{grant_option, has_level};
 ghost use Rattle.priv_sets.specs.PlainNames.{plain_names, plain_name};
 
 use crate::{Level, Static};
@@ -48,7 +48,7 @@ static NAMES: [&str; 31] = [
 /// names, and 30 for GRANT OPTION.
 ///
 /// MySQL 8.0 Reference Manual, "Privileges Provided by MySQL".
-#[derive(Clone, Copy, Debug, PartialEq, Eq, PartialOrd, Ord, Hash)]
+#[derive(Clone, Copy, Debug, PartialEq, Eq, Hash)]
 pub struct Plain {
     number: u8,
 }
@@ -70,6 +70,13 @@ impl Plain {
         ensures { result ≡ number }
     {
         Plain { number }
+    }
+
+    /// GRANT OPTION.
+    pub fn grant_option() -> Plain
+        ensures { result ≡ grant_option }
+    {
+        Plain { number: 30 }
     }
 
     /// The number of the privilege.

@@ -8,11 +8,10 @@ ghost use Rattle.priv_sets.specs.declared.privilege.Privilege.{Privilege};
 use crate::{Dynamic, Level, Plain};
 use std::fmt;
 
-/// A privilege. The order is that of the numbers, GRANT OPTION after the static privileges and the
-/// dynamic ones last.
+/// A privilege.
 ///
 /// MySQL 8.0 Reference Manual, "Privileges Provided by MySQL".
-#[derive(Clone, Copy, Debug, PartialEq, Eq, PartialOrd, Ord, Hash)]
+#[derive(Clone, Copy, Debug, PartialEq, Eq, Hash)]
 pub enum Privilege {
     /// A static privilege, or GRANT OPTION.
     Plain(Plain),

@@ -136,7 +136,7 @@ impl Static {
             (not (q == grant_option) && has_level level q) }
         ensures known { IsTrue (is_known result) }
     {
-        Static::at_level(level).without(Plain::new(30))
+        Static::at_level(level).without(Plain::grant_option())
     }
 
     /// The set of a number, where each of its bits stands for a privilege.

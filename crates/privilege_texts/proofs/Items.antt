@@ -6,9 +6,11 @@ use Rattle.std.specs.Prelude.{Some, codes}
 use Rattle.acl_grammar.specs.Spelling.{spells}
 use Rattle.acl_stmt.specs.Columns.{is_some_list}
 use Rattle.acl_stmt.specs.declared.columns.ColumnPriv.{ColumnPriv}
+use Rattle.canonical_texts.proofs.Lexemes.{lexemes_append}
 use Rattle.canonical_texts.specs.Tokens.{column_tokens, columns_item_tokens, list_tokens, mark, name, spaced_mark, spaced_name, word, words_of}
 use Rattle.grant_lex.specs.Printed.{Printed}
 use Rattle.grant_words.specs.Classes.{is, is_identifier}
+use Rattle.grant_words.specs.Lexemes.{printed_lexeme, printed_lexemes}
 use Rattle.grant_words.specs.Names.{ident}
 use Rattle.grant_words.specs.Syntax.{grammar_of}
 use Rattle.grant_words.specs.declared.lexeme.Lexeme.{Lexeme}
@@ -24,9 +26,8 @@ use Rattle.privilege_statements.proofs.ReadNames.{dynamic_spelled, plain_spelled
 use Rattle.privilege_statements.specs.NameTokens.{name_tokens, word_token}
 use Rattle.privilege_statements.specs.PrivilegeItems.{column_names, item, maybe_columns, privilege_item, static_privilege}
 use Rattle.privilege_statements.specs.PrivilegeNames.{lone_class, lone_number, lone_numbers, numbers_from, other_name, static_name}
-use Rattle.privilege_texts.proofs.Members.{each_kept, lexemes, lexemes-append, list_spelled}
+use Rattle.privilege_texts.proofs.Members.{each_kept, list_spelled}
 use Rattle.privilege_texts.proofs.Names.{ident_spelled}
-use Rattle.privilege_texts.specs.Lexemes.{lexeme_of}
 
 -- two tables that agree as lists agree at each number
 same_at : {A : Type 0} (f g : ℕ → A) (first count n : ℕ) → map f (numbers_from first count) ≡ map g (numbers_from first count) → first ≤ n → n < first + count → f n ≡ g n
@@ -39,23 +40,23 @@ same_at f g first (suc count) n same above below =
       | inr more ↦ let equal : first ≡ n = omega arith in sym (ap f equal) ∙ here ∙ ap g equal
     ]
 
-plain_words : (n : ℕ) → n < 31 → lexemes (words_of (plain_name n)) ≡ name_tokens (plain_name n)
+plain_words : (n : ℕ) → n < 31 → printed_lexemes (words_of (plain_name n)) ≡ name_tokens (plain_name n)
 unfolding plain_names words_of
-plain_words n below = same_at (λ q. lexemes (words_of (plain_name q))) (λ q. name_tokens (plain_name q)) 0 31 n refl (omega arith) below
+plain_words n below = same_at (λ q. printed_lexemes (words_of (plain_name q))) (λ q. name_tokens (plain_name q)) 0 31 n refl (omega arith) below
 
-dynamic_words : (n : ℕ) → n < 20 → lexemes (words_of (dynamic_name n)) ≡ name_tokens (dynamic_name n)
+dynamic_words : (n : ℕ) → n < 20 → printed_lexemes (words_of (dynamic_name n)) ≡ name_tokens (dynamic_name n)
 unfolding dynamic_names words_of
-dynamic_words n below = same_at (λ q. lexemes (words_of (dynamic_name q))) (λ q. name_tokens (dynamic_name q)) 0 20 n refl (omega arith) below
+dynamic_words n below = same_at (λ q. printed_lexemes (words_of (dynamic_name q))) (λ q. name_tokens (dynamic_name q)) 0 20 n refl (omega arith) below
 
-pub plain_item : (n : ℕ) → n < 31 → spells (grammar_of item) (lexemes (words_of (plain_name n))) (Plain n)
+pub plain_item : (n : ℕ) → n < 31 → spells (grammar_of item) (printed_lexemes (words_of (plain_name n))) (Plain n)
 plain_item n below = subst (λ tokens. spells (grammar_of item) tokens (Plain n)) (sym (plain_words n below)) (plain_spelled n below)
 
-pub dynamic_item : (n : ℕ) → n < 20 → spells (grammar_of item) (lexemes (words_of (dynamic_name n))) (Dynamic n)
+pub dynamic_item : (n : ℕ) → n < 20 → spells (grammar_of item) (printed_lexemes (words_of (dynamic_name n))) (Dynamic n)
 dynamic_item n below = subst (λ tokens. spells (grammar_of item) tokens (Dynamic n)) (sym (dynamic_words n below)) (dynamic_spelled n below)
 
-pub usage_item : spells (grammar_of item) (lexemes (word (codes "USAGE") ∷ [])) Usage
+pub usage_item : spells (grammar_of item) (printed_lexemes (word (codes "USAGE") ∷ [])) Usage
 unfolding item is
-usage_item = inl (lexeme_of (word (codes "USAGE")), [], refl, refl, (refl, refl))
+usage_item = inl (printed_lexeme (word (codes "USAGE")), [], refl, refl, (refl, refl))
 
 -- a name of one word
 lone_of : (n : ℕ) (token : Lexeme) → name_tokens (plain_name n) ≡ token ∷ [] → is lone_class token ≡ true → n ≡ lone_number token.value
@@ -104,27 +105,27 @@ unfolding has_level
 lone_name n level = among_four n level
 
 -- blanks count for nothing
-other_names : (others : List (List ℕ)) → lexemes (flat_map (λ other. mark 44 ∷ spaced_name other ∷ []) others) ≡ lexemes (flat_map (λ other. mark 44 ∷ name other ∷ []) others)
+other_names : (others : List (List ℕ)) → printed_lexemes (flat_map (λ other. mark 44 ∷ spaced_name other ∷ []) others) ≡ printed_lexemes (flat_map (λ other. mark 44 ∷ name other ∷ []) others)
 other_names [] = refl
-other_names (other ∷ others) = ap (λ rest. lexeme_of (mark 44) ∷ lexeme_of (name other) ∷ rest) (other_names others)
+other_names (other ∷ others) = ap (λ rest. printed_lexeme (mark 44) ∷ printed_lexeme (name other) ∷ rest) (other_names others)
 
 abbrev name_alone : List ℕ → List Printed
 name_alone text = name text ∷ []
 
 -- what stands behind the opening parenthesis
 inside_tokens : (first : List ℕ) (others : List (List ℕ))
-    → lexemes (name first ∷ (flat_map (λ other. mark 44 ∷ spaced_name other ∷ []) others ++ mark 41 ∷ [])) ≡ lexemes (list_tokens name_alone (first ∷ others)) ++ lexeme_of (mark 41) ∷ []
+    → printed_lexemes (name first ∷ (flat_map (λ other. mark 44 ∷ spaced_name other ∷ []) others ++ mark 41 ∷ [])) ≡ printed_lexemes (list_tokens name_alone (first ∷ others)) ++ printed_lexeme (mark 41) ∷ []
 inside_tokens first others =
-    ap (λ rest. lexeme_of (name first) ∷ rest)
-    (lexemes-append (flat_map (λ other. mark 44 ∷ spaced_name other ∷ []) others) (mark 41 ∷ []) ∙ ap (λ rest. rest ++ lexeme_of (mark 41) ∷ []) (other_names others))
+    ap (λ rest. printed_lexeme (name first) ∷ rest)
+    (lexemes_append (flat_map (λ other. mark 44 ∷ spaced_name other ∷ []) others) (mark 41 ∷ []) ∙ ap (λ rest. rest ++ printed_lexeme (mark 41) ∷ []) (other_names others))
 
 columns_spelled : (first : List ℕ) (others : List (List ℕ)) → list_all is_identifier (first ∷ others) ≡ true
-    → spells (grammar_of maybe_columns) (lexemes (column_tokens (first ∷ others))) (Some (first ∷ others))
+    → spells (grammar_of maybe_columns) (printed_lexemes (column_tokens (first ∷ others))) (Some (first ∷ others))
 unfolding maybe_columns column_names is
 columns_spelled first others fit =
     inl (
-      lexeme_of (spaced_mark 40),
-      lexemes (name first ∷ (flat_map (λ other. mark 44 ∷ spaced_name other ∷ []) others ++ mark 41 ∷ [])),
+      printed_lexeme (spaced_mark 40),
+      printed_lexemes (name first ∷ (flat_map (λ other. mark 44 ∷ spaced_name other ∷ []) others ++ mark 41 ∷ [])),
       refl,
       refl,
       (
@@ -132,12 +133,12 @@ columns_spelled first others fit =
         (
           (first ∷ others, tt),
           (
-            lexemes (list_tokens name_alone (first ∷ others)),
-            lexeme_of (mark 41) ∷ [],
+            printed_lexemes (list_tokens name_alone (first ∷ others)),
+            printed_lexeme (mark 41) ∷ [],
             inside_tokens first others,
             list_spelled name_alone (spells (grammar_of ident)) first others first others
-                (each_kept (λ x v. spells (grammar_of ident) (lexemes (name_alone x)) v) is_identifier ident_spelled (first ∷ others) fit),
-            (lexeme_of (mark 41), [], refl, refl, (refl, refl)),
+                (each_kept (λ x v. spells (grammar_of ident) (printed_lexemes (name_alone x)) v) is_identifier ident_spelled (first ∷ others) fit),
+            (printed_lexeme (mark 41), [], refl, refl, (refl, refl)),
           ),
           refl,
         ),
@@ -153,7 +154,7 @@ column_number n level =
     ]
 
 with_columns : (n : ℕ) (names : List (List ℕ)) → is_some_list names ≡ true → has_level Column n ≡ true → list_all is_identifier names ≡ true
-    → spells (grammar_of item) (lexemes (words_of (plain_name n) ++ column_tokens names)) (Columns n names)
+    → spells (grammar_of item) (printed_lexemes (words_of (plain_name n) ++ column_tokens names)) (Columns n names)
 unfolding item privilege_item static_privilege
 with_columns n [] some level fit = absurd (true≢false (sym some))
 with_columns n (first ∷ others) some level fit =
@@ -163,9 +164,9 @@ with_columns n (first ∷ others) some level fit =
       (n, Some (first ∷ others)),
       (
         name_tokens (plain_name n),
-        lexemes (column_tokens (first ∷ others)),
-        lexemes-append (words_of (plain_name n)) (column_tokens (first ∷ others))
-            ∙ ap (λ words. words ++ lexemes (column_tokens (first ∷ others))) (plain_words n (column_number n level)),
+        printed_lexemes (column_tokens (first ∷ others)),
+        lexemes_append (words_of (plain_name n)) (column_tokens (first ∷ others))
+            ∙ ap (λ words. words ++ printed_lexemes (column_tokens (first ∷ others))) (plain_words n (column_number n level)),
         lone_name n level,
         columns_spelled first others fit,
       ),
@@ -175,5 +176,5 @@ with_columns n (first ∷ others) some level fit =
     )
 
 pub columns_item : (listed : ColumnPriv) → list_all is_identifier listed.names ≡ true
-    → spells (grammar_of item) (lexemes (columns_item_tokens listed)) (Columns listed.privilege listed.names)
+    → spells (grammar_of item) (printed_lexemes (columns_item_tokens listed)) (Columns listed.privilege listed.names)
 columns_item listed fit = with_columns listed.privilege listed.names (some_names listed) (column_rules listed).level fit

@@ -7,3 +7,4 @@ pub mod Spelled
 pub mod Statements
 pub mod Targets
 pub mod TokenValues
+pub mod OtherBytes

@@ -1,21 +1,15 @@
 -- Tokens part by part, and lists member by member.
-use Rattle.std.proofs.Common.{◌≡◌, refl, sym, ap, subst, Bool, true, List, [], ◌∷◌, ◌++◌, map, append-nil}
+use Rattle.std.proofs.Common.{◌≡◌, sym, ap, subst, Bool, true, List, [], ◌∷◌, ◌++◌, append-nil}
 use Rattle.std.proofs.lemmas.Bool.{and_parts}
-use Rattle.std.proofs.lemmas.List.{map-append}
 use Rattle.std.specs.List.{list_all}
 use Rattle.acl_grammar.specs.Spelling.{separated}
+use Rattle.canonical_texts.proofs.Lexemes.{comma_is, lexemes_append}
 use Rattle.canonical_texts.specs.Tokens.{list_tokens, mark}
 use Rattle.grant_lex.specs.Printed.{Printed}
 use Rattle.grant_words.specs.Classes.{is}
+use Rattle.grant_words.specs.Lexemes.{printed_lexeme, printed_lexemes}
 use Rattle.grant_words.specs.Lists.{comma}
 use Rattle.grant_words.specs.declared.lexeme.Lexeme.{Lexeme}
-use Rattle.privilege_texts.specs.Lexemes.{lexeme_of}
-
-abbrev pub lexemes : List Printed → List Lexeme
-lexemes printed = map lexeme_of printed
-
-pub lexemes-append : (xs ys : List Printed) → lexemes (xs ++ ys) ≡ lexemes xs ++ lexemes ys
-lexemes-append xs ys = map-append lexeme_of xs ys
 
 -- members that spell values, one by one
 abbrev pub EachSpells : {X A : Type 0} → (X → A → Type 0) → List X → List A → Type 0
@@ -35,22 +29,18 @@ pub each_kept : {A : Type 0} (P : A → A → Type 0) (test : A → Bool) → ((
 each_kept P test one [] keep = tt
 each_kept P test one (x ∷ xs) keep = let parts = and_parts (test x) (list_all test xs) keep in (one x parts.0, each_kept P test one xs parts.1)
 
-pub is_comma : is comma (lexeme_of (mark 44)) ≡ true
-unfolding is
-is_comma = refl
-
 -- the members with commas between them
 pub list_spelled : {X A : Type 0} (print : X → List Printed) (P : List Lexeme → A → Type 0) (x : X) (xs : List X) (v : A) (vs : List A)
-    → EachSpells (λ y w. P (lexemes (print y)) w) (x ∷ xs) (v ∷ vs) → separated (is comma) P (lexemes (list_tokens print (x ∷ xs))) (v ∷ vs)
-list_spelled print P x [] v [] h = subst (λ tokens. P tokens v) (sym (ap lexemes (append-nil (print x)))) h.0
+    → EachSpells (λ y w. P (printed_lexemes (print y)) w) (x ∷ xs) (v ∷ vs) → separated (is comma) P (printed_lexemes (list_tokens print (x ∷ xs))) (v ∷ vs)
+list_spelled print P x [] v [] h = subst (λ tokens. P tokens v) (sym (ap printed_lexemes (append-nil (print x)))) h.0
 list_spelled print P x [] v (w ∷ vs) h = absurd h.1
 list_spelled print P x (y ∷ xs) v [] h = absurd h.1
 list_spelled print P x (y ∷ xs) v (w ∷ vs) h = (
-  lexemes (print x),
-  lexeme_of (mark 44),
-  lexemes (list_tokens print (y ∷ xs)),
-  lexemes-append (print x) (mark 44 ∷ list_tokens print (y ∷ xs)),
-  is_comma,
+  printed_lexemes (print x),
+  printed_lexeme (mark 44),
+  printed_lexemes (list_tokens print (y ∷ xs)),
+  lexemes_append (print x) (mark 44 ∷ list_tokens print (y ∷ xs)),
+  comma_is,
   h.0,
   list_spelled print P y xs w vs h.1,
 )

@@ -3,22 +3,21 @@ use Rattle.std.proofs.Common.{◌≡◌, ◌∙◌, refl, sym, ap, subst, ℕ, �
 use Rattle.std.proofs.lemmas.Bool.{and_from, and_parts, eq-eqb}
 use Rattle.std.proofs.lemmas.List.Folds.{list_all-append}
 use Rattle.std.specs.List.{AllByRecursion, list_all}
-use Rattle.std.specs.Prelude.{Option, Some, None, not}
-use Rattle.std.specs.Str.{IsUtf8, chars, str_to_ascii_lowercase}
-use Rattle.account_match.specs.Form.{form_of}
+use Rattle.std.specs.Prelude.{Option, not}
+use Rattle.std.specs.Str.{IsUtf8, str_to_ascii_lowercase}
 use Rattle.acl_grammar.specs.Spelling.{separated, spells}
-use Rattle.acl_names.proofs.LowerTexts.{lowered_is_lower}
-use Rattle.acl_names.proofs.Lowered.{ident_fault-lowered, lowered-lowered, lowered_name}
-use Rattle.acl_names.specs.Name.{ident_fault, name_fault}
-use Rattle.acl_names.specs.Text.{is_lower}
+use Rattle.acl_names.proofs.Lowered.{ident_fault-lowered}
+use Rattle.acl_names.specs.Name.{ident_fault}
 use Rattle.acl_names.specs.declared.auth.AuthId.{AuthId}
 use Rattle.acl_stmt.specs.declared.columns.ColumnPriv.{ColumnPriv}
 use Rattle.acl_stmt.specs.declared.privileges.PrivList.{PrivList}
 use Rattle.acl_stmt.specs.declared.target.Target.{Target}
 use Rattle.acl_stmt.specs.declared.target.Target.TheVariants as on
+use Rattle.canonical_texts.proofs.SpelledAccounts.{account_keeps, none_from}
+use Rattle.canonical_texts.specs.Rules.{account_keeps_rules}
 use Rattle.grant_words.specs.Classes.{is, is_identifier, no_fault}
 use Rattle.grant_words.specs.Lists.{accounts, comma}
-use Rattle.grant_words.specs.Names.{account, at_host, ident, is_host, is_some, is_user}
+use Rattle.grant_words.specs.Names.{account, ident}
 use Rattle.grant_words.specs.Syntax.{grammar_of}
 use Rattle.grant_words.specs.declared.lexeme.Lexeme.{Lexeme}
 use Rattle.priv_items.proofs.EachOnce.{list_all-each_once, list_all-filter}
@@ -34,8 +33,8 @@ use Rattle.priv_sets.specs.Levels.{grant_option}
 use Rattle.privilege_statements.proofs.Unescaping.{stays_a_name}
 use Rattle.privilege_statements.specs.PrivilegeItems.{column_names, item, maybe_columns, maybe_privileges, privilege_item, privileges, static_item, static_privilege}
 use Rattle.privilege_statements.specs.Targets.{behind_star, dotted, escaped_target, is_long_schema, long_target, marked_target, on_escaped_schema, schema_target, star_or_table, target}
-use Rattle.privilege_texts.specs.Lexemes.{IsText}
-use Rattle.privilege_texts.specs.Rules.{account_keeps_rules, columns_keep_rules, target_keeps_rules}
+use Rattle.privilege_texts.specs.Rules.{IsText}
+use Rattle.privilege_texts.specs.Rules.{columns_keep_rules, target_keeps_rules}
 
 each_passes : {T A : Type 0} (mark : T → Bool) (P : List T → A → Type 0) (test : A → Bool) → ((us : List T) (v : A) → P us v → test v ≡ true)
     → (ts : List T) (vs : List A) → separated mark P ts vs → list_all test vs ≡ true
@@ -44,33 +43,7 @@ each_passes mark P test one ts (v ∷ []) h = and_from (test v) true (one ts v h
 each_passes mark P test one ts (v ∷ w ∷ vs) (us, t, ws, whole, marked, spelled, more) =
     and_from (test v) (list_all test (w ∷ vs)) (one us v spelled) (each_passes mark P test one ws (w ∷ vs) more)
 
-none_from : {A : Type 0} (fault : Option A) → no_fault fault ≡ true → fault ≡ None
-none_from None none = refl
-none_from (Some x) none = cc
-
 -- accounts
-lowered_host : (text : List ℕ) → is_host text ≡ true → is_host (str_to_ascii_lowercase text) ≡ true
-lowered_host text fits =
-    let parts = and_parts (no_fault (name_fault 255 text)) (is_some (form_of (str_to_ascii_lowercase text))) fits in
-    and_from (no_fault (name_fault 255 (str_to_ascii_lowercase text))) (is_some (form_of (str_to_ascii_lowercase (str_to_ascii_lowercase text))))
-    (ap no_fault (lowered_name 255 text (none_from (name_fault 255 text) parts.0)).faultless)
-    (ap (λ lower. is_some (form_of lower)) (lowered-lowered text) ∙ parts.1)
-
-host_keeps : (ts : List Lexeme) (host : List ℕ) → spells (grammar_of at_host) ts host → (is_host host ≡ true) × (is_lower host ≡ true)
-unfolding at_host is chars form_of
-host_keeps ts host (inl (t, us, fits, cut, (h, good, one, same))) = (
-  ap is_host same ∙ lowered_host h.value (and_parts _ (is_host h.value) good).1,
-  ap is_lower same ∙ lowered_is_lower h.value,
-)
-host_keeps ts host (inr (none, same)) = (ap is_host same, ap is_lower same)
-
-account_keeps : (ts : List Lexeme) (v : AuthId) → spells (grammar_of account) ts v → account_keeps_rules v ≡ true
-unfolding account is
-account_keeps ts v (names, (us, ws, whole, (t, good, one, same_user), host), same) =
-    let user : is_user names.0 ≡ true = ap is_user same_user ∙ (and_parts _ (is_user t.value) good).1 in
-    let rest = host_keeps ws names.1 host in
-    ap account_keeps_rules same ∙ and_from (is_user names.0 && is_host names.1) (is_lower names.1) (and_from (is_user names.0) (is_host names.1) user rest.0) rest.1
-
 pub accounts_keep : (ts : List Lexeme) (vs : List AuthId) → spells (grammar_of accounts) ts vs → list_all account_keeps_rules vs ≡ true
 unfolding accounts
 accounts_keep ts vs spelled = each_passes (is comma) (spells (grammar_of account)) account_keeps_rules account_keeps ts vs spelled

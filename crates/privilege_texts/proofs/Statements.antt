@@ -12,11 +12,15 @@ use Rattle.acl_stmt.specs.declared.statement.Statement.{Statement}
 use Rattle.acl_stmt.specs.declared.statement.Statement.TheVariants as statement
 use Rattle.acl_stmt.specs.declared.target.Target.{Target}
 use Rattle.acl_stmt.specs.declared.target.Target.TheVariants as on
+use Rattle.canonical_texts.proofs.Lexemes.{lexemes_append}
+use Rattle.canonical_texts.specs.Lexemes.{canonical_lexemes}
+use Rattle.canonical_texts.specs.Rules.{account_keeps_rules}
 use Rattle.canonical_texts.specs.StatementTokens.{further_tokens}
 use Rattle.canonical_texts.specs.Tokens.{accounts_tokens, opening, privileges_tokens, target_tokens, tokens_if, word, words_of}
 use Rattle.grant_lex.specs.Printed.{Printed}
 use Rattle.grant_parse.specs.Meaning.{MeansStatement, level_fault}
 use Rattle.grant_words.specs.Classes.{is}
+use Rattle.grant_words.specs.Lexemes.{printed_lexeme, printed_lexemes}
 use Rattle.grant_words.specs.Lists.{accounts}
 use Rattle.grant_words.specs.Syntax.{grammar_of}
 use Rattle.grant_words.specs.declared.lexeme.Lexeme.{Lexeme}
@@ -41,71 +45,70 @@ use Rattle.privilege_statements.specs.Targets.{target}
 use Rattle.privilege_statements.specs.declared.statement.RawStatement.{RawStatement}
 use Rattle.privilege_statements.specs.declared.statement.RawStatement.TheVariants as raw
 use Rattle.privilege_texts.proofs.Accounts.{accounts_spelled}
-use Rattle.privilege_texts.proofs.Members.{lexemes, lexemes-append}
 use Rattle.privilege_texts.proofs.Privileges.{privileges_spelled}
 use Rattle.privilege_texts.proofs.Spelled.{accounts_keep, all_back, all_front, granted_columns_keep, meant_target_keeps, revoked_columns_keep}
 use Rattle.privilege_texts.proofs.Targets.{target_spelled}
-use Rattle.privilege_texts.specs.Lexemes.{IsText, canonical_lexemes, lexeme_of}
-use Rattle.privilege_texts.specs.ReadBack.{IsReadBack}
-use Rattle.privilege_texts.specs.Rules.{account_keeps_rules, columns_keep_rules, names_keep_rules, parts_keep_rules, target_keeps_rules}
+use Rattle.privilege_texts.specs.Rules.{IsText}
+use Rattle.privilege_texts.specs.SpelledAgain.{IsSpelledAgain}
+use Rattle.privilege_texts.specs.Rules.{columns_keep_rules, names_keep_rules, parts_keep_rules, target_keeps_rules}
 
 on_target_spelled : (list : PrivList) (on_what : Target) → list_all columns_keep_rules list.columns ≡ true → target_keeps_rules on_what ≡ true
-    → spells (grammar_of privileges_on_target) (lexemes (privileges_tokens list ++ word (codes "ON") ∷ target_tokens on_what)) (items_of list, on_what)
+    → spells (grammar_of privileges_on_target) (printed_lexemes (privileges_tokens list ++ word (codes "ON") ∷ target_tokens on_what)) (items_of list, on_what)
 unfolding privileges_on_target is
 on_target_spelled list on_what columns keeps = (
-  lexemes (privileges_tokens list),
-  lexeme_of (word (codes "ON")) ∷ lexemes (target_tokens on_what),
-  lexemes-append (privileges_tokens list) (word (codes "ON") ∷ target_tokens on_what),
+  printed_lexemes (privileges_tokens list),
+  printed_lexeme (word (codes "ON")) ∷ printed_lexemes (target_tokens on_what),
+  lexemes_append (privileges_tokens list) (word (codes "ON") ∷ target_tokens on_what),
   privileges_spelled list columns,
-  (lexeme_of (word (codes "ON")), lexemes (target_tokens on_what), refl, refl, target_spelled on_what keeps),
+  (printed_lexeme (word (codes "ON")), printed_lexemes (target_tokens on_what), refl, refl, target_spelled on_what keeps),
 )
 
-option_spelled : (given : Bool) → spells (grammar_of with_grant_option) (lexemes (tokens_if given (words_of (codes "WITH GRANT OPTION")))) given
+option_spelled : (given : Bool) → spells (grammar_of with_grant_option) (printed_lexemes (tokens_if given (words_of (codes "WITH GRANT OPTION")))) given
 unfolding with_grant_option words_of is
 option_spelled true =
     inl (
-      lexeme_of (word (codes "WITH")),
-      lexemes (word (codes "GRANT") ∷ word (codes "OPTION") ∷ []),
+      printed_lexeme (word (codes "WITH")),
+      printed_lexemes (word (codes "GRANT") ∷ word (codes "OPTION") ∷ []),
       refl,
       refl,
-      (lexeme_of (word (codes "GRANT")), lexemes (word (codes "OPTION") ∷ []), refl, refl, (lexeme_of (word (codes "OPTION")), [], refl, refl, (refl, refl))),
+      (printed_lexeme (word (codes "GRANT")), printed_lexemes (word (codes "OPTION") ∷ []), refl, refl, (printed_lexeme (word (codes "OPTION")), [], refl, refl, (refl, refl))),
     )
 option_spelled false = inr (refl, refl)
 
 -- accounts that were spelled
-accounts_again : (ts : List Lexeme) (all : List AuthId) → spells (grammar_of accounts) ts all → spells (grammar_of accounts) (lexemes (accounts_tokens all)) all
+accounts_again : (ts : List Lexeme) (all : List AuthId) → spells (grammar_of accounts) ts all → spells (grammar_of accounts) (printed_lexemes (accounts_tokens all)) all
 unfolding accounts
 accounts_again ts [] spelled = absurd spelled
 accounts_again ts (first ∷ others) spelled = accounts_spelled first others (accounts_keep ts (first ∷ others) spelled)
 
 -- the tokens behind a target, from the keyword before the accounts on
-cut_behind : (first middle rest : List Printed) → lexemes (first ++ (middle ++ rest)) ≡ lexemes (first ++ middle) ++ lexemes rest
-cut_behind first middle rest = ap lexemes (sym (append_assoc first middle rest)) ∙ lexemes-append (first ++ middle) rest
+cut_behind : (first middle rest : List Printed) → printed_lexemes (first ++ (middle ++ rest)) ≡ printed_lexemes (first ++ middle) ++ printed_lexemes rest
+cut_behind first middle rest = ap printed_lexemes (sym (append_assoc first middle rest)) ∙ lexemes_append (first ++ middle) rest
 
 module _ (list : PrivList) (on_what : Target) (all : List AuthId) (columns : list_all columns_keep_rules list.columns ≡ true) (keeps : target_keeps_rules on_what ≡ true)
-    (spelled : spells (grammar_of accounts) (lexemes (accounts_tokens all)) all) where
+    (spelled : spells (grammar_of accounts) (printed_lexemes (accounts_tokens all)) all) where
   grant_spelled : (given : Bool) → spells (grammar_of privilege_statement) (canonical_lexemes (statement.Grant list on_what all given)) (raw.Grant (items_of list) on_what all given)
   unfolding privilege_statement grant further_tokens is
   grant_spelled given =
       let option : List Printed = tokens_if given (words_of (codes "WITH GRANT OPTION")) in
       inl (
-        lexeme_of (opening (codes "GRANT")),
-        lexemes (further_tokens (statement.Grant list on_what all given)),
+        printed_lexeme (opening (codes "GRANT")),
+        printed_lexemes (further_tokens (statement.Grant list on_what all given)),
         refl,
         refl,
         (
           ((items_of list, on_what), (all, given)),
           (
-            lexemes (privileges_tokens list ++ word (codes "ON") ∷ target_tokens on_what),
-            lexeme_of (word (codes "TO")) ∷ lexemes (accounts_tokens all ++ option),
+            printed_lexemes (privileges_tokens list ++ word (codes "ON") ∷ target_tokens on_what),
+            printed_lexeme (word (codes "TO")) ∷ printed_lexemes (accounts_tokens all ++ option),
             cut_behind (privileges_tokens list) (word (codes "ON") ∷ target_tokens on_what) (word (codes "TO") ∷ (accounts_tokens all ++ option)),
             on_target_spelled list on_what columns keeps,
             (
-              lexeme_of (word (codes "TO")),
-              lexemes (accounts_tokens all ++ option),
+              printed_lexeme (word (codes "TO")),
+              printed_lexemes (accounts_tokens all ++ option),
               refl,
               refl,
-              (lexemes (accounts_tokens all), lexemes option, lexemes-append (accounts_tokens all) option, spelled, option_spelled given),
+              (printed_lexemes (accounts_tokens all), printed_lexemes option, lexemes_append (accounts_tokens all) option, spelled, option_spelled given),
             ),
           ),
           refl,
@@ -116,18 +119,18 @@ module _ (list : PrivList) (on_what : Target) (all : List AuthId) (columns : lis
   unfolding privilege_statement revoke further_tokens is
   revoke_spelled =
       inr (
-        lexeme_of (opening (codes "REVOKE")),
-        lexemes (further_tokens (statement.Revoke list on_what all)),
+        printed_lexeme (opening (codes "REVOKE")),
+        printed_lexemes (further_tokens (statement.Revoke list on_what all)),
         refl,
         refl,
         (
           ((items_of list, on_what), all),
           (
-            lexemes (privileges_tokens list ++ word (codes "ON") ∷ target_tokens on_what),
-            lexeme_of (word (codes "FROM")) ∷ lexemes (accounts_tokens all),
+            printed_lexemes (privileges_tokens list ++ word (codes "ON") ∷ target_tokens on_what),
+            printed_lexeme (word (codes "FROM")) ∷ printed_lexemes (accounts_tokens all),
             cut_behind (privileges_tokens list) (word (codes "ON") ∷ target_tokens on_what) (word (codes "FROM") ∷ accounts_tokens all),
             on_target_spelled list on_what columns keeps,
-            (lexeme_of (word (codes "FROM")), lexemes (accounts_tokens all), refl, refl, spelled),
+            (printed_lexeme (word (codes "FROM")), printed_lexemes (accounts_tokens all), refl, refl, spelled),
           ),
           refl,
         ),
@@ -162,7 +165,7 @@ or_none false b none = none
 
 grant_read_back : (ts ws zs : List Lexeme) (named : Named) (on_what : Target) (all : List AuthId) (option : Bool) (list : PrivList) → spells (grammar_of privileges) ts named
     → AllByRecursion IsText ws → spells (grammar_of target) ws on_what → spells (grammar_of accounts) zs all → wrong_level named on_what ≡ None → IsMeant (without_grant_option named) list
-    → IsReadBack (statement.Grant list (lowered_target on_what) all (option || names_grant_option named))
+    → IsSpelledAgain (statement.Grant list (lowered_target on_what) all (option || names_grant_option named))
 grant_read_back ts ws zs named on_what all option list named_spelled texts target_was accounts_were fits meant =
     let given : Bool = option || names_grant_option named in
     let no_option : holds list.plain grant_option ≡ false = meant.plain grant_option ∙ never_named named in
@@ -182,7 +185,7 @@ grant_read_back ts ws zs named on_what all option list named_spelled texts targe
 
 revoke_read_back : (ts ws zs : List Lexeme) (named : Named) (on_what : Target) (all : List AuthId) (list : PrivList) → spells (grammar_of privileges) ts named
     → AllByRecursion IsText ws → spells (grammar_of target) ws on_what → spells (grammar_of accounts) zs all → wrong_level named on_what ≡ None → IsMeant named list
-    → IsReadBack (statement.Revoke list (lowered_target on_what) all)
+    → IsSpelledAgain (statement.Revoke list (lowered_target on_what) all)
 revoke_read_back ts ws zs named on_what all list named_spelled texts target_was accounts_were fits meant =
     record {
       raw = raw.Revoke (items_of list) (lowered_target on_what) all;
@@ -200,30 +203,30 @@ behind_on us xs ys ps qs ws o each first second third =
     let back : AllByRecursion IsText qs = all_back IsText ps qs (subst (AllByRecursion IsText) second front) in
     (subst (AllByRecursion IsText) third back).1
 
-from_grant : (us : List Lexeme) (r : RawStatement) (s : Statement) → AllByRecursion IsText us → spells (grammar_of grant) us r → level_fault (inr r) ≡ None → MeansStatement (inr r) s → IsReadBack s
+from_grant : (us : List Lexeme) (r : RawStatement) (s : Statement) → AllByRecursion IsText us → spells (grammar_of grant) us r → level_fault (inr r) ≡ None → MeansStatement (inr r) s → IsSpelledAgain s
 unfolding grant privileges_on_target
 from_grant us r s each (v, (xs, ys, whole, (ps, qs, cut, named, (o, ws, good, behind, on_what)), (t, zs, good', behind', (ls, os, cut', all, option))), same) fault meant =
-    let P : RawStatement → Type 0 = λ x. level_fault (inr x) ≡ None → MeansStatement (inr x) s → IsReadBack s in
+    let P : RawStatement → Type 0 = λ x. level_fault (inr x) ≡ None → MeansStatement (inr x) s → IsSpelledAgain s in
     subst P (sym same) by fault meant
   where
-    by : wrong_level v.0.0 v.0.1 ≡ None → MeansStatement (inr (raw.Grant v.0.0 v.0.1 v.1.0 v.1.1)) s → IsReadBack s
+    by : wrong_level v.0.0 v.0.1 ≡ None → MeansStatement (inr (raw.Grant v.0.0 v.0.1 v.1.0 v.1.1)) s → IsSpelledAgain s
     by fits (list, list_meant, is_statement) =
-        subst IsReadBack (sym is_statement)
+        subst IsSpelledAgain (sym is_statement)
         (grant_read_back ps ws ls v.0.0 v.0.1 v.1.0 v.1.1 list named (behind_on us xs ys ps qs ws o each whole cut behind) on_what all fits list_meant)
 
-from_revoke : (us : List Lexeme) (r : RawStatement) (s : Statement) → AllByRecursion IsText us → spells (grammar_of revoke) us r → level_fault (inr r) ≡ None → MeansStatement (inr r) s → IsReadBack s
+from_revoke : (us : List Lexeme) (r : RawStatement) (s : Statement) → AllByRecursion IsText us → spells (grammar_of revoke) us r → level_fault (inr r) ≡ None → MeansStatement (inr r) s → IsSpelledAgain s
 unfolding revoke privileges_on_target
 from_revoke us r s each (v, (xs, ys, whole, (ps, qs, cut, named, (o, ws, good, behind, on_what)), (t, zs, good', behind', all)), same) fault meant =
-    let P : RawStatement → Type 0 = λ x. level_fault (inr x) ≡ None → MeansStatement (inr x) s → IsReadBack s in
+    let P : RawStatement → Type 0 = λ x. level_fault (inr x) ≡ None → MeansStatement (inr x) s → IsSpelledAgain s in
     subst P (sym same) by fault meant
   where
-    by : wrong_level v.0.0 v.0.1 ≡ None → MeansStatement (inr (raw.Revoke v.0.0 v.0.1 v.1)) s → IsReadBack s
+    by : wrong_level v.0.0 v.0.1 ≡ None → MeansStatement (inr (raw.Revoke v.0.0 v.0.1 v.1)) s → IsSpelledAgain s
     by fits (list, list_meant, is_statement) =
-        subst IsReadBack (sym is_statement)
+        subst IsSpelledAgain (sym is_statement)
         (revoke_read_back ps ws zs v.0.0 v.0.1 v.1 list named (behind_on us xs ys ps qs ws o each whole cut behind) on_what all fits list_meant)
 
 pub read_back : (ts : List Lexeme) (r : RawStatement) (s : Statement) → AllByRecursion IsText ts → spells (grammar_of privilege_statement) ts r → level_fault (inr r) ≡ None
-    → MeansStatement (inr r) s → IsReadBack s
+    → MeansStatement (inr r) s → IsSpelledAgain s
 unfolding privilege_statement
 read_back ts r s each (inl (t, us, good, cut, spelled)) fault meant = from_grant us r s (subst (AllByRecursion IsText) cut each).1 spelled fault meant
 read_back ts r s each (inr (t, us, good, cut, spelled)) fault meant = from_revoke us r s (subst (AllByRecursion IsText) cut each).1 spelled fault meant

@@ -17,7 +17,7 @@ use Rattle.grant_lex.specs.declared.sorts.Kind.{Kind}
 use Rattle.grant_lex.specs.declared.sorts.Kind.TheVariants.{Word, Quoted, Backquoted, Mark}
 use Rattle.grant_lex.specs.declared.sorts.Token.{Token}
 use Rattle.grant_words.specs.Lexemes.{lexemes_of}
-use Rattle.privilege_texts.specs.Lexemes.{IsText}
+use Rattle.privilege_texts.specs.Rules.{IsText}
 
 drop_further : (inside : List ℕ) (n : ℕ) (front rest : List ℕ) → drop n inside ≡ front ++ rest → drop (n + length front) inside ≡ rest
 drop_further inside n front rest left = sym (drop-drop (length front) n inside) ∙ ap (drop (length front)) left ∙ drop-append_seam front rest

@@ -1,3 +1,2 @@
-pub mod Lexemes
-pub mod ReadBack
 pub mod Rules
+pub mod SpelledAgain

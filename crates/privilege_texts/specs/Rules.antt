@@ -1,29 +1,20 @@
 -- Names within their rules, as a GRANT or a REVOKE of privileges holds them.
-use Rattle.std.specs.Prelude.{◌≡◌, Bool, true, false, ◌&&◌, List, codes, refl}
+use Rattle.std.specs.Prelude.{Bool, true, ◌&&◌, List}
 use Rattle.std.specs.List.{list_all}
-use Rattle.std.specs.Str.{chars}
-use Rattle.account_match.specs.Form.{form_of}
-use Rattle.acl_names.specs.Text.{is_lower}
+use Rattle.std.specs.Str.{IsUtf8}
 use Rattle.acl_names.specs.declared.auth.AuthId.{AuthId}
 use Rattle.acl_stmt.specs.declared.columns.ColumnPriv.{ColumnPriv}
 use Rattle.acl_stmt.specs.declared.statement.Statement.{Statement}
 use Rattle.acl_stmt.specs.declared.statement.Statement.TheVariants.{Grant, Revoke}
 use Rattle.acl_stmt.specs.declared.target.Target.{Target}
 use Rattle.acl_stmt.specs.declared.target.Target.TheVariants as on
+use Rattle.canonical_texts.specs.Rules.{account_keeps_rules}
 use Rattle.grant_words.specs.Classes.{is_identifier}
-use Rattle.grant_words.specs.Names.{is_host, is_user}
+use Rattle.grant_words.specs.declared.lexeme.Lexeme.{Lexeme}
 
--- a user, and a host in lower case
-abbrev pub account_keeps_rules : AuthId → Bool
-account_keeps_rules account = is_user account.user && is_host account.host && is_lower account.host
-
-example-account : account_keeps_rules (record { user = codes "u"; host = codes "%" }) ≡ true
-unfolding chars form_of
-example-account = refl
-
-example-capitals : account_keeps_rules (record { user = codes "u"; host = codes "Host" }) ≡ false
-unfolding chars form_of
-example-capitals = refl
+-- the token stands for UTF-8
+abbrev pub IsText : Lexeme → Type 0
+IsText lexeme = IsUtf8 lexeme.value
 
 abbrev pub columns_keep_rules : ColumnPriv → Bool
 columns_keep_rules columns = list_all is_identifier columns.names

@@ -57,8 +57,8 @@ module _ (roles holders new_roles new_holders : List Link) (role to : ℕ) (grap
   above n false true has = rw (lt-ltb 0 (n + 1) (omega arith)) (sym (or-true (nat_lt 0 n)))
   above n false false has = rw (add-zero n) (sym (or-false (nat_lt 0 n)))
 
-  counted : (from other : ℕ) → linked roles to role ≡ true → ((to == from) && (role == other)) ≡ true → 0 < count_by (is_link from other) roles
-  counted from other stands same =
+  linked_counts : (from other : ℕ) → linked roles to role ≡ true → ((to == from) && (role == other)) ≡ true → 0 < count_by (is_link from other) roles
+  linked_counts from other stands same =
       let parts = and_parts (to == from) (role == other) same in
       let stands' : linked roles from other ≡ true =
       ap (λ f. linked roles f other) (sym (eqb-true to from parts.0)) ∙ ap (linked roles to) (sym (eqb-true role other parts.1)) ∙ stands in
@@ -68,7 +68,7 @@ module _ (roles holders new_roles new_holders : List Link) (role to : ℕ) (grap
   added_linked from other =
       any_counted (is_link from other) new_roles
       ∙ ap (nat_lt 0) (roles_count (λ a b. (a == from) && (b == other)))
-      ∙ above (count_by (is_link from other) roles) (linked roles to role) ((to == from) && (role == other)) (counted from other)
+      ∙ above (count_by (is_link from other) roles) (linked roles to role) ((to == from) && (role == other)) (linked_counts from other)
       ∙ ap (λ b. b || ((to == from) && (role == other))) (sym (any_counted (is_link from other) roles))
 
   pub added_length : length new_roles ≡ length roles + (if linked roles to role then 0 else 1)

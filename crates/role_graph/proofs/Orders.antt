@@ -53,7 +53,7 @@ failing_none p none (suc bound) = rw (none bound) (omega (arith, failing_none p 
 pub order_begins : (granted : Granted) (affected placed : ℕ → Bool) (nodes : List ℕ) → ((n : ℕ) → placed n ≡ false) →
     IsOrder granted affected placed nodes 0
 order_begins granted affected placed nodes none = record {
-  counted = omega (arith, failing_none placed none 4096);
+  number_placed = omega (arith, failing_none placed none 4096);
   only_affected = λ n is. absurd (true≢false (sym is ∙ none n));
   listed = λ k below. absurd (omega (arith, below));
   once = λ n. rw (none n) refl;
@@ -70,7 +70,7 @@ module _ (granted : Granted) (affected placed new_placed : ℕ → Bool) (nodes 
   fewer = failing_one placed new_placed node unplaced is 4096 below
 
   inside : count < length nodes
-  inside = omega (arith, fewer, order.counted, size)
+  inside = omega (arith, fewer, order.number_placed, size)
 
   still : (n : ℕ) → placed n ≡ true → new_placed n ≡ true
   still n was = is n ∙ or_right (node == n) (placed n) was
@@ -126,7 +126,7 @@ module _ (granted : Granted) (affected placed new_placed : ℕ → Bool) (nodes 
   -- one node more has its place
   pub order_grows : IsOrder granted affected new_placed (set nodes count node) (count + 1)
   order_grows = record {
-    counted = omega (arith, fewer, order.counted);
+    number_placed = omega (arith, fewer, order.number_placed);
     only_affected = λ n now. elim (which n now) [
       | inl same ↦ sym (ap affected same) ∙ among
       | inr was ↦ order.only_affected n was
@@ -149,7 +149,7 @@ module _ (granted : Granted) (affected placed new_placed : ℕ → Bool) (nodes 
 pub room_for : (granted : Granted) (affected placed : ℕ → Bool) (nodes : List ℕ) (count node : ℕ) → IsOrder granted affected placed nodes count →
     node < 4096 → placed node ≡ false → count < 4096
 room_for granted affected placed nodes count node order below unplaced =
-    omega (arith, order.counted, failing_one placed (λ n. (node == n) || placed n) node unplaced (λ _. refl) 4096 below)
+    omega (arith, order.number_placed, failing_one placed (λ n. (node == n) || placed n) node unplaced (λ _. refl) 4096 below)
 
 -- whether some link leads to an affected node without a place
 abbrev pub awaits : (ℕ → Bool) → (ℕ → Bool) → Link → Bool

@@ -13,7 +13,7 @@ done seen waiting n = seen n && not (waiting n)
 
 -- the first nodes of a list are those that were placed, each once and after the roles of it that are affected
 pub record IsOrder (granted : Granted) (affected placed : ℕ → Bool) (nodes : List ℕ) (count : ℕ) : Type 0 where
-  pub counted : count + failing placed 4096 ≡ 4096
+  pub number_placed : count + failing placed 4096 ≡ 4096
   pub only_affected : (n : ℕ) → placed n ≡ true → affected n ≡ true
   pub listed : (k : ℕ) → k < count → placed (slice_index nodes k) ≡ true
   pub once : (n : ℕ) → count_by (λ x. x == n) (take count nodes) ≡ (if placed n then 1 else 0)

@@ -5,8 +5,8 @@ use Rattle.std.proofs.lemmas.Bool.{and_parts, cases_lt, eqb-true, false_from_ne_
 use Rattle.std.proofs.Math.Seq.{take-add}
 use Rattle.grant_refusal.specs.declared.ParseRefusal.{ParseRefusal}
 use Rattle.grant_refusal.specs.declared.ParseRefusal.TheVariants.{Syntax}
-use Rattle.script_lines.specs.Beginnings.{is_session_byte, is_session_name, IsFront, IsUnbegun}
-use Rattle.script_lines.specs.Spelling.{refusal_on_line, IsCut, IsLineRefused, IsNoCommand, Spells}
+use Rattle.script_lines.specs.Beginnings.{is_session_byte, is_session_name, IsLineFront, IsUnbegun}
+use Rattle.script_lines.specs.Spelling.{refusal_on_line, IsCommandLine, IsLineRefused, IsNoCommand, Spells}
 use Rattle.script_lines.specs.declared.refusal.CommandRefusal.{CommandRefusal}
 
 -- what is owed of the commands: one meaning, one refusal, and never both
@@ -46,14 +46,14 @@ name_bytes : (name : List ℕ) → IsTrue (is_session_name name) → list_all is
 unfolding is_session_name
 name_bytes name is_name = (and_parts (nat_le 1 (length name) && nat_le (length name) 32) (list_all is_session_byte name) is_name).1
 
-pub cut_front : (text name command : List ℕ) → IsCut text name command → front_of text ≡ name
+pub cut_front : (text name command : List ℕ) → IsCommandLine text name command → front_of text ≡ name
 cut_front text name command cut = ap front_of cut.text_is ∙ front_of-name name (32 ∷ command) (name_bytes name cut.is_name)
 
-cut_back : (text name command : List ℕ) → IsCut text name command → back_of text ≡ command
+cut_back : (text name command : List ℕ) → IsCommandLine text name command → back_of text ≡ command
 cut_back text name command cut = ap back_of cut.text_is ∙ back_of-name name (32 ∷ command) (name_bytes name cut.is_name)
 
 -- a front of a front
-shorter_front : (text : List ℕ) (short gap : ℕ) → IsFront (take (short + gap) text) → IsFront (take short text)
+shorter_front : (text : List ℕ) (short gap : ℕ) → IsLineFront (take (short + gap) text) → IsLineFront (take short text)
 shorter_front text short gap front = record {
   name = front.name;
   more = take gap (drop short text) ++ front.more;
@@ -61,9 +61,9 @@ shorter_front text short gap front = record {
   goes_on = sym (append_assoc (take short text) (take gap (drop short text)) front.more) ∙ ap (λ bytes. bytes ++ front.more) (sym (take-add short gap text)) ∙ front.goes_on;
 }
 
-front_within : (text : List ℕ) (short long : ℕ) → short ≤ long → IsFront (take long text) → IsFront (take short text)
+front_within : (text : List ℕ) (short long : ℕ) → short ≤ long → IsLineFront (take long text) → IsLineFront (take short text)
 front_within text short long le front =
-    let P : ℕ → Type 0 = λ n. IsFront (take n text) in
+    let P : ℕ → Type 0 = λ n. IsLineFront (take n text) in
     let sum : long ≡ short + (long - short) = omega arith in
     shorter_front text short (long - short) (subst P sum front)
 

@@ -6,7 +6,7 @@ use Rattle.std.proofs.lemmas.List.{get_or-take, get_or_default, take_more, lengt
 use Rattle.std.proofs.lemmas.List.Sums.{AllPass-from_list_all, list_all-from_AllPass}
 use Rattle.std.proofs.Math.ListN.{get_or-append}
 use Rattle.std.proofs.Math.Seq.{drop-cons, get_or-append_seam}
-use Rattle.script_lines.specs.Beginnings.{is_session_byte, is_session_name, line_text, IsFront, IsUnbegun}
+use Rattle.script_lines.specs.Beginnings.{is_session_byte, is_session_name, line_text, IsLineFront, IsUnbegun}
 
 pub some_and : {X : Type 0} (o : Option X) (P : X → Type 0) → MatchOption o ⊥ P → IsSomeAnd o P
 some_and None P h = h
@@ -54,7 +54,7 @@ record Begins (text : List ℕ) (count : ℕ) : Type 0 where
   mark : size < count → get_or text size 0 ≡ 62
   space : size + 1 < count → get_or text (size + 1) 0 ≡ 32
 
-begins : (text : List ℕ) (count : ℕ) → count ≤ length text → IsFront (take count text) → Begins text count
+begins : (text : List ℕ) (count : ℕ) → count ≤ length text → IsLineFront (take count text) → Begins text count
 begins text count within front =
     let name = front.name in
     let whole = name ++ codes "> " in
@@ -74,7 +74,7 @@ begins text count within front =
 
 -- fronts
 
-front_none : (text : List ℕ) → IsFront (take 0 text)
+front_none : (text : List ℕ) → IsLineFront (take 0 text)
 unfolding is_session_name
 front_none text = record { name = 97 ∷ []; more = codes "a> "; is_name = refl; goes_on = refl }
 
@@ -83,7 +83,7 @@ taken_name text count some few within bytes =
     let long : length (take count text) ≡ count = length-take-le count text within in
     bytes_name (take count text) (omega arith) (omega arith) (λ k below. ap is_session_byte (get_or-take count text k 0 (omega arith)) ∙ bytes k (omega arith))
 
-front_name : (text : List ℕ) (count : ℕ) → 1 ≤ count → count ≤ 32 → count ≤ length text → ((k : ℕ) → k < count → is_session_byte (get_or text k 0) ≡ true) → IsFront (take count text)
+front_name : (text : List ℕ) (count : ℕ) → 1 ≤ count → count ≤ 32 → count ≤ length text → ((k : ℕ) → k < count → is_session_byte (get_or text k 0) ≡ true) → IsLineFront (take count text)
 front_name text count some few within bytes =
     record { name = take count text; more = codes "> "; is_name = taken_name text count some few within bytes; goes_on = refl }
 
@@ -91,7 +91,7 @@ take_one_more : (text : List ℕ) (count byte : ℕ) → count < length text →
 take_one_more text count byte below at = take_more text count 0 below ∙ ap (λ last. take count text ++ last ∷ []) at
 
 front_mark : (text : List ℕ) (count : ℕ) → 1 ≤ count → count ≤ 32 → count < length text → ((k : ℕ) → k < count → is_session_byte (get_or text k 0) ≡ true)
-    → get_or text count 0 ≡ 62 → IsFront (take (count + 1) text)
+    → get_or text count 0 ≡ 62 → IsLineFront (take (count + 1) text)
 front_mark text count some few below bytes mark = record {
   name = take count text;
   more = codes " ";

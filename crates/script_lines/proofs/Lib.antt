@@ -3,5 +3,6 @@ mod Distinct
 mod FirstLines
 mod Fronts
 mod Reading
-mod Sessions
 mod Readings
+pub mod SampleCommands
+mod Sessions

@@ -5,8 +5,8 @@ use Rattle.std.specs.Str.Lines.{lines}
 use Rattle.std.proofs.Math.Seq.{get_or-append_seam}
 use Rattle.std.proofs.lemmas.List.{map-append}
 use Rattle.script_lines.proofs.Sessions.{first_appearances-push, grows, Grows}
-use Rattle.script_lines.specs.Adding.{with_name, Adds, IsNotAdded, IsNotSeated, IsNotTaken, Takes}
-use Rattle.script_lines.specs.Refusals.{IsRefused}
+use Rattle.script_lines.specs.Adding.{with_name, AddsLine, IsNotAdded, IsNotSeated, IsNotTaken, Takes}
+use Rattle.script_lines.specs.Refusals.{IsScriptRefusal}
 use Rattle.script_lines.specs.Script.{first_appearances, owner, seen, AreLines, EachIsLine, IsLine, IsTaken, IsWithinLimits}
 use Rattle.script_lines.specs.Spelling.{Spells}
 use Rattle.script_lines.specs.Texts.{command_lines, is_passed_over, numbered}
@@ -51,7 +51,7 @@ each-push spelled names (other ∷ texts) (before ∷ lines) text line each this
 
 -- one line more
 pub are_lines-push : {M : Type 0} (spelled : List ℕ → M → Type 0) (texts : List (ℕ × List ℕ)) (text : ℕ × List ℕ) (names new_names : List (List ℕ)) (lines new_lines : List (Line M))
-    → AreLines spelled texts names lines → Adds spelled text names new_names lines new_lines → AreLines spelled (texts ++ text ∷ []) new_names new_lines
+    → AreLines spelled texts names lines → AddsLine spelled text names new_names lines new_lines → AreLines spelled (texts ++ text ∷ []) new_names new_lines
 are_lines-push {M} spelled texts text names new_names lines new_lines are adds =
     let line : Line M = record { number = text.0; session = adds.session; command = adds.meaning } in
     let more = grows names new_names adds.name adds.seats.names_are in
@@ -73,12 +73,12 @@ pub record IsReadUpTo {M : Type 0} (spelled : List ℕ → M → Type 0) (bytes 
   pub split : command_lines bytes ≡ texts ++ numbered (number + 1) (lines rest)
   pub are_lines : AreLines spelled texts names ls
   pub few : length names ≤ 64
-  pub counted : number + length (lines rest) ≡ length (lines bytes)
+  pub all_lines : number + length (lines rest) ≡ length (lines bytes)
   pub shorter : length rest ≤ length bytes
 
 -- nothing is read
 pub read_none : {M : Type 0} (spelled : List ℕ → M → Type 0) (bytes : List ℕ) → IsReadUpTo spelled bytes bytes 0 [] []
-read_none spelled bytes = record { texts = []; split = refl; are_lines = record { each = tt; sessions = refl }; few = omega arith; counted = omega arith; shorter = omega arith }
+read_none spelled bytes = record { texts = []; split = refl; are_lines = record { each = tt; sessions = refl }; few = omega arith; all_lines = omega arith; shorter = omega arith }
 
 -- all is read
 pub read_all : {M : Type 0} (spelled : List ℕ → M → Type 0) (bytes rest : List ℕ) (number : ℕ) (names : List (List ℕ)) (ls : List (Line M))
@@ -108,7 +108,7 @@ left_after bytes rest text behind number front false split first is = split ∙ 
 -- the next line is read
 read_step : {M : Type 0} (spelled : List ℕ → M → Type 0) (bytes rest text behind : List ℕ) (number : ℕ) (names new_names : List (List ℕ)) (ls new_ls : List (Line M)) (b : Bool)
     → IsReadUpTo spelled bytes rest number names ls → lines rest ≡ text ∷ lines behind → length behind < length rest → is_passed_over text ≡ b
-    → MatchBool b ((new_names ≡ names) × (new_ls ≡ ls)) (Adds spelled (number + 1, text) names new_names ls new_ls) → length new_names ≤ 64 → IsReadUpTo spelled bytes behind (number + 1) new_names new_ls
+    → MatchBool b ((new_names ≡ names) × (new_ls ≡ ls)) (AddsLine spelled (number + 1, text) names new_names ls new_ls) → length new_names ≤ 64 → IsReadUpTo spelled bytes behind (number + 1) new_names new_ls
 read_step {M} spelled bytes rest text behind number names new_names ls new_ls true so_far first less is takes few =
     let P : List (List ℕ) → Type 0 = λ n. AreLines spelled so_far.texts n new_ls in
     let Q : List (Line M) → Type 0 = λ l. AreLines spelled so_far.texts names l in
@@ -117,7 +117,7 @@ read_step {M} spelled bytes rest text behind number names new_names ls new_ls tr
       split = left_after bytes rest text behind (number + 1) so_far.texts true so_far.split first is;
       are_lines = subst P (sym takes.0) (subst Q (sym takes.1) so_far.are_lines);
       few = few;
-      counted = omega (arith, so_far.counted, ap length first);
+      all_lines = omega (arith, so_far.all_lines, ap length first);
       shorter = omega (arith, so_far.shorter);
     }
 read_step spelled bytes rest text behind number names new_names ls new_ls false so_far first less is takes few = record {
@@ -125,7 +125,7 @@ read_step spelled bytes rest text behind number names new_names ls new_ls false 
   split = left_after bytes rest text behind (number + 1) so_far.texts false so_far.split first is ∙ sym (append_assoc so_far.texts ((number + 1, text) ∷ []) (numbered (number + 1 + 1) (lines behind)));
   are_lines = are_lines-push spelled so_far.texts (number + 1, text) names new_names ls new_ls so_far.are_lines takes;
   few = few;
-  counted = omega (arith, so_far.counted, ap length first);
+  all_lines = omega (arith, so_far.all_lines, ap length first);
   shorter = omega (arith, so_far.shorter);
 }
 
@@ -137,7 +137,7 @@ read_next spelled bytes rest text behind number names new_names ls new_ls so_far
 
 -- a line that is not added refuses the script
 refused_by : {M : Type 0} (spelled : List ℕ → M → Type 0) (refused : List ℕ → CommandRefusal → Type 0) (bytes text : List ℕ) (number : ℕ) (front behind : List (ℕ × List ℕ)) (names : List (List ℕ)) (ls : List (Line M)) (refusal : ScriptRefusal)
-    → command_lines bytes ≡ front ++ (number, text) ∷ behind → AreLines spelled front names ls → length names ≤ 64 → IsWithinLimits bytes → IsNotAdded spelled refused (number, text) names ls refusal → IsRefused spelled refused bytes refusal
+    → command_lines bytes ≡ front ++ (number, text) ∷ behind → AreLines spelled front names ls → length names ≤ 64 → IsWithinLimits bytes → IsNotAdded spelled refused (number, text) names ls refusal → IsScriptRefusal spelled refused bytes refusal
 refused_by spelled refused bytes text number front behind names ls (BadLine other refusal) split are few within why = record {
   within = within;
   first = record {
@@ -171,7 +171,7 @@ refused_by spelled refused bytes text number front behind names ls (Limit Sessio
 refused_by spelled refused bytes text number front behind names ls NoMemory split are few within why = tt
 
 pub refused_here : {M : Type 0} (spelled : List ℕ → M → Type 0) (refused : List ℕ → CommandRefusal → Type 0) (bytes rest text behind : List ℕ) (number : ℕ) (names : List (List ℕ)) (ls : List (Line M)) (refusal : ScriptRefusal)
-    → IsReadUpTo spelled bytes rest number names ls → lines rest ≡ text ∷ lines behind → IsWithinLimits bytes → IsNotTaken spelled refused (number + 1, text) names ls refusal → IsRefused spelled refused bytes refusal
+    → IsReadUpTo spelled bytes rest number names ls → lines rest ≡ text ∷ lines behind → IsWithinLimits bytes → IsNotTaken spelled refused (number + 1, text) names ls refusal → IsScriptRefusal spelled refused bytes refusal
 refused_here spelled refused bytes rest text behind number names ls refusal so_far first within why =
     refused_by spelled refused bytes text (number + 1) so_far.texts (numbered (number + 1 + 1) (lines behind)) names ls refusal
     (left_after bytes rest text behind (number + 1) so_far.texts false so_far.split first why.0) so_far.are_lines so_far.few within why.1

@@ -9,7 +9,7 @@ use Rattle.script_lines.proofs.Cuts.{cut_front, front_of, one_line_meaning, one_
 use Rattle.script_lines.proofs.Distinct.{one_session}
 use Rattle.script_lines.proofs.Sessions.{any_of, first_appearances-push, grows_step}
 use Rattle.script_lines.specs.Adding.{with_name}
-use Rattle.script_lines.specs.Refusals.{HasMoreSessions, HaveSessions, IsAnswered, IsBadLine, IsBeyond, IsFirstRefused, IsRefused}
+use Rattle.script_lines.specs.Refusals.{HasMoreSessions, HaveSessions, RefusesScript, IsBadLine, IsBeyond, IsFirstRefused, IsScriptRefusal}
 use Rattle.script_lines.specs.Script.{first_appearances, owner, AreLines, EachIsLine, IsLine, IsTaken}
 use Rattle.script_lines.specs.Spelling.{IsLineRefused, Spells}
 use Rattle.script_lines.specs.Texts.{command_lines}
@@ -198,7 +198,7 @@ taken_not_beyond spelled bytes names lines Sessions number taken beyond = taken_
 -- what is answered of bytes
 
 pub taken_is_read : {M S : Type 0} (spelled : List ℕ → M → Type 0) (refused : List ℕ → CommandRefusal → Type 0) (names_of : S → List (List ℕ)) (lines_of : S → List (Line M)) (bytes : List ℕ) (result : Result S ScriptRefusal) → IsExact spelled refused
-    → IfOk result (λ script. IsTaken spelled bytes (names_of script) (lines_of script)) → IfErr result (IsRefused spelled refused bytes)
+    → IfOk result (λ script. IsTaken spelled bytes (names_of script) (lines_of script)) → IfErr result (IsScriptRefusal spelled refused bytes)
     → (names : List (List ℕ)) (lines : List (Line M)) → IsTaken spelled bytes names lines → MatchResult result (λ script. (names ≡ names_of script) × (lines ≡ lines_of script)) (λ refusal. refusal ≡ NoMemory)
 taken_is_read spelled refused names_of lines_of bytes (Ok script) exact found err names lines taken =
     same_script spelled refused (command_lines bytes) names (names_of script) lines (lines_of script) exact taken.script found.script
@@ -208,8 +208,8 @@ taken_is_read spelled refused names_of lines_of bytes (Err (Limit which number))
 taken_is_read spelled refused names_of lines_of bytes (Err NoMemory) exact found err names lines taken = refl
 
 pub bad_line_is_told : {M S : Type 0} (spelled : List ℕ → M → Type 0) (refused : List ℕ → CommandRefusal → Type 0) (names_of : S → List (List ℕ)) (lines_of : S → List (Line M)) (bytes : List ℕ) (result : Result S ScriptRefusal) → IsExact spelled refused
-    → IfOk result (λ script. IsTaken spelled bytes (names_of script) (lines_of script)) → IfErr result (IsRefused spelled refused bytes)
-    → (number : ℕ) (refusal : ParseRefusal) → IsBadLine spelled refused bytes number refusal → IsAnswered result (BadLine number refusal)
+    → IfOk result (λ script. IsTaken spelled bytes (names_of script) (lines_of script)) → IfErr result (IsScriptRefusal spelled refused bytes)
+    → (number : ℕ) (refusal : ParseRefusal) → IsBadLine spelled refused bytes number refusal → RefusesScript result (BadLine number refusal)
 bad_line_is_told spelled refused names_of lines_of bytes (Ok script) exact found err number refusal bad =
     absurd (taken_no_first spelled refused bytes (names_of script) (lines_of script) number refusal exact found bad.first)
 bad_line_is_told spelled refused names_of lines_of bytes (Err (BadLine other r)) exact found err number refusal bad =
@@ -218,8 +218,8 @@ bad_line_is_told spelled refused names_of lines_of bytes (Err (Limit which most)
 bad_line_is_told spelled refused names_of lines_of bytes (Err NoMemory) exact found err number refusal bad = inr refl
 
 pub limit_is_told : {M S : Type 0} (spelled : List ℕ → M → Type 0) (refused : List ℕ → CommandRefusal → Type 0) (names_of : S → List (List ℕ)) (lines_of : S → List (Line M)) (bytes : List ℕ) (result : Result S ScriptRefusal) → IsExact spelled refused
-    → IfOk result (λ script. IsTaken spelled bytes (names_of script) (lines_of script)) → IfErr result (IsRefused spelled refused bytes)
-    → (which : Which) (number : ℕ) → IsBeyond spelled bytes which number → IsAnswered result (Limit which number)
+    → IfOk result (λ script. IsTaken spelled bytes (names_of script) (lines_of script)) → IfErr result (IsScriptRefusal spelled refused bytes)
+    → (which : Which) (number : ℕ) → IsBeyond spelled bytes which number → RefusesScript result (Limit which number)
 limit_is_told spelled refused names_of lines_of bytes (Ok script) exact found err which number beyond =
     absurd (taken_not_beyond spelled bytes (names_of script) (lines_of script) which number found beyond)
 limit_is_told spelled refused names_of lines_of bytes (Err (BadLine line refusal)) exact found err which number beyond = absurd (bad_not_beyond spelled refused bytes line refusal which number exact err beyond)

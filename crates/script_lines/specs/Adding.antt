@@ -4,7 +4,7 @@ use Rattle.std.specs.List.{list_any}
 use Rattle.std.specs.Str.{bytes_eq}
 use Rattle.grant_refusal.specs.declared.ParseRefusal.{ParseRefusal}
 use Rattle.grant_refusal.specs.declared.ParseRefusal.TheVariants.{Limit as TooLong, Syntax, WrongLevel, NoMemory as NoMemoryForLine}
-use Rattle.script_lines.specs.Refusals.{IsFault}
+use Rattle.script_lines.specs.Refusals.{IsLineFault}
 use Rattle.script_lines.specs.Spelling.{IsLineRefused, Spells}
 use Rattle.script_lines.specs.Texts.{is_passed_over}
 use Rattle.script_lines.specs.declared.lines.Line.{Line}
@@ -24,7 +24,7 @@ pub record Seats (names new_names : List (List ℕ)) (name : List ℕ) (session 
   pub named : slice_index_or new_names session [] ≡ name
 
 -- a text that spells a session's command is one line more
-pub record Adds {Meaning : Type 0} (spelled : List ℕ → Meaning → Type 0) (text : ℕ × List ℕ) (names new_names : List (List ℕ)) (lines new_lines : List (Line Meaning)) : Type 0 where
+pub record AddsLine {Meaning : Type 0} (spelled : List ℕ → Meaning → Type 0) (text : ℕ × List ℕ) (names new_names : List (List ℕ)) (lines new_lines : List (Line Meaning)) : Type 0 where
   pub name : List ℕ
   pub meaning : Meaning
   pub session : ℕ
@@ -35,19 +35,19 @@ pub record Adds {Meaning : Type 0} (spelled : List ℕ → Meaning → Type 0) (
 -- a text that is passed over adds nothing, and any other is a line more
 abbrev pub Takes : {Meaning : Type 0} → (List ℕ → Meaning → Type 0) → ℕ × List ℕ → List (List ℕ) → List (List ℕ) → List (Line Meaning) → List (Line Meaning) → Type 0
 Takes spelled text names new_names lines new_lines =
-    MatchBool (is_passed_over text.1) ((new_names ≡ names) × (new_lines ≡ lines)) (Adds spelled text names new_names lines new_lines)
+    MatchBool (is_passed_over text.1) ((new_names ≡ names) × (new_lines ≡ lines)) (AddsLine spelled text names new_names lines new_lines)
 
 -- the line would be one more, and its session one too many
 pub record AddsTooMany {Meaning : Type 0} (spelled : List ℕ → Meaning → Type 0) (text : ℕ × List ℕ) (names : List (List ℕ)) (lines : List (Line Meaning)) (number : ℕ) : Type 0 where
   pub new_names : List (List ℕ)
   pub new_lines : List (Line Meaning)
-  pub adds : Adds spelled text names new_names lines new_lines
+  pub adds : AddsLine spelled text names new_names lines new_lines
   pub many : number < length new_names
 
 -- the line is refused so
 pub record IsBad (refused : List ℕ → CommandRefusal → Type 0) (text : ℕ × List ℕ) (number : ℕ) (refusal : ParseRefusal) : Type 0 where
   pub number_is : number ≡ text.0
-  pub is_fault : IsFault refusal
+  pub is_fault : IsLineFault refusal
   pub is_refused : IsLineRefused refused text.1 refusal
 
 -- why a line that has a command is not added; want of memory says nothing of it

@@ -15,7 +15,7 @@ abbrev pub line_text : List ℕ → List ℕ → List ℕ
 line_text name command = name ++ (codes "> " ++ command)
 
 -- some session's name and `> ` begin with these bytes, or are these bytes
-pub record IsFront (front : List ℕ) : Type 0 where
+pub record IsLineFront (front : List ℕ) : Type 0 where
   pub name : List ℕ
   pub more : List ℕ
   pub is_name : IsTrue (is_session_name name)
@@ -25,6 +25,6 @@ pub record IsFront (front : List ℕ) : Type 0 where
 -- place, or the text ends there
 pub record IsUnbegun (text : List ℕ) (place : ℕ) : Type 0 where
   pub within : place ≤ length text
-  pub front : IsFront (take place text)
-  pub stops : place < length text → IsFront (take (place + 1) text) → ⊥
+  pub front : IsLineFront (take place text)
+  pub stops : place < length text → IsLineFront (take (place + 1) text) → ⊥
   pub unbegun : (name command : List ℕ) → IsTrue (is_session_name name) → text ≡ line_text name command → ⊥

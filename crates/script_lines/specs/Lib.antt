@@ -1,7 +1,6 @@
 pub mod Adding
 pub mod Beginnings
-pub mod Counted
-pub mod Example
+pub mod LimitTexts
 pub mod Refusals
 pub mod Script
 pub mod Spelling

@@ -45,24 +45,24 @@ IsBeyond spelled bytes Lines number = (number ≡ 200000) × (length bytes ≤ 1
 IsBeyond spelled bytes Sessions number = (number ≡ 64) × IsWithinLimits bytes × HasMoreSessions spelled (command_lines bytes) 64
 
 -- want of memory is no fault of a line
-abbrev pub IsFault : ParseRefusal → Type 0
-IsFault TooLong = Unit {0}
-IsFault (Syntax offset) = Unit {0}
-IsFault (WrongLevel privilege) = Unit {0}
-IsFault NoMemoryForLine = ⊥
+abbrev pub IsLineFault : ParseRefusal → Type 0
+IsLineFault TooLong = Unit {0}
+IsLineFault (Syntax offset) = Unit {0}
+IsLineFault (WrongLevel privilege) = Unit {0}
+IsLineFault NoMemoryForLine = ⊥
 
 -- the line with this number is the first that is refused, and is refused so
 pub record IsBadLine {Meaning : Type 0} (spelled : List ℕ → Meaning → Type 0) (refused : List ℕ → CommandRefusal → Type 0) (bytes : List ℕ) (number : ℕ) (refusal : ParseRefusal) : Type 0 where
   pub within : IsWithinLimits bytes
   pub first : IsFirstRefused spelled refused (command_lines bytes) number refusal
-  pub is_fault : IsFault refusal
+  pub is_fault : IsLineFault refusal
 
 -- the bytes are refused so; want of memory says nothing of them
-abbrev pub IsRefused : {Meaning : Type 0} → (List ℕ → Meaning → Type 0) → (List ℕ → CommandRefusal → Type 0) → List ℕ → ScriptRefusal → Type 0
-IsRefused spelled refused bytes (BadLine number refusal) = IsBadLine spelled refused bytes number refusal
-IsRefused spelled refused bytes (Limit which number) = IsBeyond spelled bytes which number
-IsRefused spelled refused bytes NoMemory = Unit {0}
+abbrev pub IsScriptRefusal : {Meaning : Type 0} → (List ℕ → Meaning → Type 0) → (List ℕ → CommandRefusal → Type 0) → List ℕ → ScriptRefusal → Type 0
+IsScriptRefusal spelled refused bytes (BadLine number refusal) = IsBadLine spelled refused bytes number refusal
+IsScriptRefusal spelled refused bytes (Limit which number) = IsBeyond spelled bytes which number
+IsScriptRefusal spelled refused bytes NoMemory = Unit {0}
 
 -- the script is refused so, unless memory ran out
-abbrev pub IsAnswered : {Script : Type 0} → Result Script ScriptRefusal → ScriptRefusal → Type 0
-IsAnswered result refusal = (result ≡ Err refusal) ⊎ (result ≡ Err NoMemory)
+abbrev pub RefusesScript : {Script : Type 0} → Result Script ScriptRefusal → ScriptRefusal → Type 0
+RefusesScript result refusal = (result ≡ Err refusal) ⊎ (result ≡ Err NoMemory)

@@ -9,7 +9,7 @@ use Rattle.script_lines.specs.declared.refusal.CommandRefusal.{CommandRefusal}
 use Rattle.script_lines.specs.declared.refusal.CommandRefusal.TheVariants.{Text, Unbuilt}
 
 -- the text is UTF-8: a session's name and `> `, and then the text of a command
-pub record IsCut (text name command : List ℕ) : Type 0 where
+pub record IsCommandLine (text name command : List ℕ) : Type 0 where
   pub utf8 : IsUtf8 text
   pub is_name : IsTrue (is_session_name name)
   pub text_is : text ≡ line_text name command
@@ -17,7 +17,7 @@ pub record IsCut (text name command : List ℕ) : Type 0 where
 -- the text spells a command of the session with this name
 pub record Spells {Meaning : Type 0} (spelled : List ℕ → Meaning → Type 0) (text name : List ℕ) (meaning : Meaning) : Type 0 where
   pub command : List ℕ
-  pub cut : IsCut text name command
+  pub cut : IsCommandLine text name command
   pub means : spelled command meaning
 
 -- the refusal, its offset counted from so many bytes further in front
@@ -50,7 +50,7 @@ pub record IsNoCommand (refused : List ℕ → CommandRefusal → Type 0) (text 
   pub name : List ℕ
   pub command : List ℕ
   pub cause : CommandRefusal
-  pub cut : IsCut text name command
+  pub cut : IsCommandLine text name command
   pub is_cause : refused command cause
   pub refusal_is : refusal ≡ refusal_on_line (length name + 2) cause
 

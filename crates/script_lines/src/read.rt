@@ -4,7 +4,7 @@ ghost use Rattle.std.specs.Str.{bytes_eq};
 ghost use Rattle.grant_refusal.specs.declared.ParseRefusal.{ParseRefusal};
 ghost use Rattle.script_lines.specs.Adding.{refusal_of_line, IsNotSeated, IsNotTaken, Seats, Takes};
 ghost use Rattle.script_lines.specs.Beginnings.{is_session_name};
-ghost use Rattle.script_lines.specs.Refusals.{IsAnswered, IsBadLine, IsBeyond, IsRefused};
+ghost use Rattle.script_lines.specs.Refusals.{IsBadLine, IsBeyond, IsScriptRefusal, RefusesScript};
 ghost use Rattle.script_lines.specs.Script.{seen, IsTaken, IsWithinLimits};
 ghost use Rattle.script_lines.specs.Spelling.{refusal_behind, refusal_on_line, IsLineRefused, IsOffsetBelow, Says, Spells};
 ghost use Rattle.script_lines.specs.declared.lines.Line.{Line};
@@ -47,12 +47,12 @@ pub fn read_lines<C: Commands>(
         (λ script. (names ≡ script.sessions) × (lines ≡ map (seen C.view) script.lines))
         (λ refusal. refusal ≡ NoMemoryForScript) }
 
-    ensures err { IfErr result (IsRefused C.spelled C.refused bytes.now) }
+    ensures err { IfErr result (IsScriptRefusal C.spelled C.refused bytes.now) }
     ensures bad_line { (number : ℕ) (refusal : ParseRefusal) →
         IsBadLine C.spelled C.refused bytes.now number refusal →
-        IsAnswered result (BadLineOf number refusal) }
+        RefusesScript result (BadLineOf number refusal) }
     ensures limit { (which : Which) (number : ℕ) → IsBeyond C.spelled bytes.now which number →
-        IsAnswered result (LimitOf which number) }
+        RefusesScript result (LimitOf which number) }
 {
     if bytes.len() > MOST_BYTES {
         return Err(beyond(Which::Bytes, MOST_BYTES));
@@ -79,7 +79,7 @@ fn read_each<C: Commands>(alloc: Global, bytes: &[u8]) -> Result<Lines<C::Comman
         IsTaken C.spelled bytes.now script.sessions (map (seen C.view) script.lines)) }
     ensures seated { IfOk result (λ script.
         All (λ line. line.session < length script.sessions) script.lines) }
-    ensures err { IfErr result (IsRefused C.spelled C.refused bytes.now) }
+    ensures err { IfErr result (IsScriptRefusal C.spelled C.refused bytes.now) }
 {
     let mut script = Lines {
         sessions: Items::new(alloc),

@@ -56,9 +56,9 @@ pub enum Which {
 
 impl fmt::Display for Which {
     ghost use Rattle.std.specs.Prelude.{Some};
-    ghost use Rattle.script_lines.specs.Counted.{counted};
+    ghost use Rattle.script_lines.specs.LimitTexts.{which_text};
 
-    ghost output = { λ which. Some (counted which) };
+    ghost output = { λ which. Some (which_text which) };
 
     fn fmt<W: fmt::Write>(&self, f: &mut fmt::Formatter<W>) -> fmt::Result {
         f.write_str(match self {

@@ -8,7 +8,7 @@ use Rattle.grant_lex.specs.Token.{IsCut, IsSpan}
 use Rattle.grant_lex.specs.declared.sorts.Token.{Token}
 use Rattle.grant_refusal.specs.declared.ParseRefusal.{ParseRefusal}
 use Rattle.grant_refusal.specs.declared.ParseRefusal.TheVariants.{Limit, Syntax, WrongLevel, NoMemory}
-use Rattle.grant_texts.specs.Texts.{IsSyntax, IsSyntaxRefusal, place_at}
+use Rattle.grant_parse.specs.Texts.{IsSyntax, IsSyntaxRefusal, place_at}
 use Rattle.grant_words.specs.declared.lexeme.Lexeme.{Lexeme}
 use Rattle.script_commands.proofs.Fronts.{located}
 use Rattle.script_lines.specs.Spelling.{IsPlaced}

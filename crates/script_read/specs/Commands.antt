@@ -4,7 +4,7 @@ use Rattle.acl_stmt.specs.declared.statement.Statement.{Statement}
 use Rattle.civil_moment.specs.Moment.{moment_of}
 use Rattle.grant_refusal.specs.declared.ParseRefusal.{ParseRefusal}
 use Rattle.grant_refusal.specs.declared.ParseRefusal.TheVariants.{Limit, Syntax, WrongLevel, NoMemory}
-use Rattle.grant_texts.specs.Texts.{IsSpelled, IsSyntax}
+use Rattle.grant_parse.specs.Texts.{IsSpelled, IsSyntax}
 use Rattle.priv_sets.specs.declared.privilege.Privilege.{Privilege}
 use Rattle.privilege_statements.specs.declared.statement.RawStatement.{RawStatement}
 use Rattle.script_commands.specs.Moments.{HasMoment}

@@ -3,7 +3,7 @@
 ghost use Rattle.std.specs.Prelude.{◌≡◌, ℕ, ◌<◌, List, length, IfErr, IfOk, MatchResult};
 ghost use Rattle.std.specs.List.{All};
 ghost use Rattle.grant_refusal.specs.declared.ParseRefusal.{ParseRefusal};
-ghost use Rattle.script_lines.specs.Refusals.{IsAnswered, IsBadLine, IsBeyond, IsRefused};
+ghost use Rattle.script_lines.specs.Refusals.{IsBadLine, IsBeyond, IsScriptRefusal, RefusesScript};
 ghost use Rattle.script_lines.specs.Script.{IsTaken};
 ghost use Rattle.script_lines.specs.declared.lines.Line.{Line as LineOf};
 ghost use Rattle.script_lines.specs.declared.refusal.ScriptRefusal.TheVariants.{BadLine as BadLineOf, Limit as LimitOf, NoMemory as NoMemoryForScript};
@@ -96,11 +96,11 @@ pub fn read_script(alloc: Global, bytes: &[u8]) -> Result<Script, ScriptRefusal>
     ensures only { (names : List (List ℕ)) (lines : List (LineOf Command)) → IsTaken IsCommand bytes.now names lines →
         MatchResult result (λ script. (names ≡ script.sessions) × (lines ≡ script.lines)) (λ refusal. refusal ≡ NoMemoryForScript) }
 
-    ensures err { IfErr result (IsRefused IsCommand IsTextRefusal bytes.now) }
+    ensures err { IfErr result (IsScriptRefusal IsCommand IsTextRefusal bytes.now) }
     ensures bad_line { (number : ℕ) (refusal : ParseRefusal) → IsBadLine IsCommand IsTextRefusal bytes.now number refusal →
-        IsAnswered result (BadLineOf number refusal) }
+        RefusesScript result (BadLineOf number refusal) }
     ensures limit { (which : Which) (number : ℕ) → IsBeyond IsCommand bytes.now which number →
-        IsAnswered result (LimitOf which number) }
+        RefusesScript result (LimitOf which number) }
 {
     read_lines::<AllCommands>(alloc, bytes)
 }
@@ -113,12 +113,12 @@ pub fn read_script_of<F: Forms>(alloc: Global, bytes: &[u8]) -> Result<Script, S
     ensures only { (names : List (List ℕ)) (lines : List (LineOf Command)) → IsTaken (IsBuiltCommand F.built) bytes.now names lines →
         MatchResult result (λ script. (names ≡ script.sessions) × (lines ≡ script.lines)) (λ refusal. refusal ≡ NoMemoryForScript) }
 
-    ensures err { IfErr result (IsRefused (IsBuiltCommand F.built) (IsBuiltRefusal F.built) bytes.now) }
+    ensures err { IfErr result (IsScriptRefusal (IsBuiltCommand F.built) (IsBuiltRefusal F.built) bytes.now) }
     ensures bad_line { (number : ℕ) (refusal : ParseRefusal) →
         IsBadLine (IsBuiltCommand F.built) (IsBuiltRefusal F.built) bytes.now number refusal →
-        IsAnswered result (BadLineOf number refusal) }
+        RefusesScript result (BadLineOf number refusal) }
     ensures limit { (which : Which) (number : ℕ) → IsBeyond (IsBuiltCommand F.built) bytes.now which number →
-        IsAnswered result (LimitOf which number) }
+        RefusesScript result (LimitOf which number) }
 {
     read_lines::<BuiltCommands<F>>(alloc, bytes)
 }

@@ -3,21 +3,20 @@
 ghost use Rattle.std.specs.Prelude.{◌≡◌, ◌<◌, ◌^◌, IfErr, IfOk, cond, length, nat_le};
 ghost use Rattle.acl_grammar.specs.Code.{RefusedAs};
 ghost use Rattle.acl_grammar.specs.Spelling.{Refused};
-ghost use Rattle.grant_texts.specs.Texts.{IsSpelled, IsSyntaxRefusal};
+ghost use Rattle.grant_parse.specs.Texts.{IsSpelled, IsSyntaxRefusal};
 ghost use Rattle.script_read.specs.Written.{SpellsWritten, as_written};
 
 use acl_grammar::{Either, Refusal, read_either, read_whole};
 use acl_stmt::Statement;
-use grant_parse::{PrivilegeRule, UserRule};
+use grant_parse::{PrivilegeRule, UserRule, cut};
 use grant_refusal::ParseRefusal;
-use grant_texts::cut;
 use grant_words::Lexeme;
 use privilege_statements::RawStatement;
 use script_commands::{CommandRule, RawCommand};
 use std::alloc::Global;
 
 /// What the text spells, whatever the levels of its privileges.
-#[tactic(auto, using(grant_texts::proofs::Places::within_tokens))]
+#[tactic(auto, using(grant_parse::proofs::Places::within_tokens))]
 pub(crate) fn spelled(
     alloc: Global,
     text: &str,

@@ -14,7 +14,7 @@ use Rattle.acl_stmt.specs.declared.target.Target.TheVariants as on
 use Rattle.grant_parse.proofs.Kept.{raw_text_accounts, user_text_kept}
 use Rattle.grant_parse.specs.Meaning.{MeansStatement, level_fault}
 use Rattle.grant_parse.specs.Statements.{SpellsStatement}
-use Rattle.grant_texts.specs.Texts.{IsSpelled}
+use Rattle.grant_parse.specs.Texts.{IsSpelled}
 use Rattle.grant_words.specs.declared.lexeme.Lexeme.{Lexeme}
 use Rattle.priv_items.proofs.Fits.{request_from_meant}
 use Rattle.priv_items.proofs.WithoutOption.{wrong_level-without}

@@ -1,20 +1,13 @@
 -- Lists are read as they are written.
-use Rattle.std.proofs.Common.{◌≡◌, IsTrue, List, [], ◌∷◌, ◌++◌, append-nil, append_assoc, refl, sym, ap, subst, ◌∙◌}
-use Rattle.std.proofs.lemmas.List.{map-append}
+use Rattle.std.proofs.Common.{◌≡◌, List, [], ◌∷◌, ◌++◌, append-nil, append_assoc, sym, ap, subst, ◌∙◌}
 use Rattle.acl_grammar.specs.Spelling.{repeated, separated}
+use Rattle.canonical_texts.proofs.Lexemes.{comma_is, lexemes_append}
 use Rattle.canonical_texts.specs.Tokens.{list_tokens, mark}
 use Rattle.grant_lex.specs.Printed.{Printed}
 use Rattle.grant_words.specs.Classes.{is}
+use Rattle.grant_words.specs.Lexemes.{printed_lexeme, printed_lexemes}
 use Rattle.grant_words.specs.Lists.{comma}
 use Rattle.grant_words.specs.declared.lexeme.Lexeme.{Lexeme}
-use Rattle.user_texts.specs.Lexemes.{lexeme_of, printed_lexemes}
-
-comma_is : IsTrue (is comma (lexeme_of (mark 44)))
-unfolding is
-comma_is = refl
-
-pub lexemes_append : (xs ys : List Printed) → printed_lexemes (xs ++ ys) ≡ printed_lexemes xs ++ printed_lexemes ys
-lexemes_append xs ys = map-append lexeme_of xs ys
 
 -- where each member is read as it is written, so is the list
 pub list_again : {A : Type 0} (P : List Lexeme → A → Type 0) (print : A → List Printed)
@@ -25,7 +18,7 @@ list_again P print again (v ∷ []) ts k =
     subst (λ l. P (printed_lexemes l) v) (sym (append-nil (print v))) (again ts v k)
 list_again P print again (v ∷ w ∷ vs) ts (us, t, ws, cut, h, k, more) = (
   printed_lexemes (print v),
-  lexeme_of (mark 44),
+  printed_lexeme (mark 44),
   printed_lexemes (list_tokens print (w ∷ vs)),
   lexemes_append (print v) (mark 44 ∷ list_tokens print (w ∷ vs)),
   comma_is,

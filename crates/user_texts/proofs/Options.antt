@@ -6,30 +6,31 @@ use Rattle.acl_names.specs.declared.policy.LockTime.{LockTime}
 use Rattle.acl_names.specs.declared.policy.LockTime.TheVariants.{Days, Unbounded}
 use Rattle.acl_stmt.specs.Statements.{are_options, is_lock_time, is_option_number}
 use Rattle.acl_stmt.specs.declared.options.AccountOptions.{AccountOptions}
+use Rattle.canonical_texts.proofs.Lexemes.{lexemes_append}
 use Rattle.canonical_texts.specs.Tokens.{attempts_tokens, days_tokens, locked_tokens, options_tokens, word, words_of}
 use Rattle.grant_lex.specs.Printed.{Printed}
 use Rattle.grant_lex.specs.Value.{value_of}
 use Rattle.grant_words.proofs.Apart.{both_left, both_right}
 use Rattle.grant_words.specs.Classes.{is}
+use Rattle.grant_words.specs.Lexemes.{printed_lexeme, printed_lexemes}
+use Rattle.grant_words.specs.Numbers.{number_of}
 use Rattle.grant_words.specs.Syntax.{grammar_of}
 use Rattle.grant_words.specs.declared.lexeme.Lexeme.{Lexeme}
 use Rattle.user_statements.proofs.Numbers.{same_number}
-use Rattle.grant_words.specs.Numbers.{number_of}
 use Rattle.user_statements.specs.Options.{is_number_text, lock, lock_time, number, number_class, options, options_of, setting}
 use Rattle.user_statements.specs.declared.setting.Setting.{Setting}
 use Rattle.user_statements.specs.declared.setting.Setting.TheVariants.{Attempts, Lock, Locked}
-use Rattle.user_texts.proofs.Lists.{lexemes_append, repeated_append}
+use Rattle.user_texts.proofs.Lists.{repeated_append}
 use Rattle.user_texts.proofs.Numbers.{decimal_fits, decimal_number, decimal_value}
-use Rattle.user_texts.specs.Lexemes.{lexeme_of, printed_lexemes}
 
-number_is : (n : ℕ) → IsTrue (nat_le n 32767) → IsTrue (is number_class (lexeme_of (word (decimal n))))
+number_is : (n : ℕ) → IsTrue (nat_le n 32767) → IsTrue (is number_class (printed_lexeme (word (decimal n))))
 unfolding is
 number_is n h = same_number (value_of (decimal n)) ∙ ap is_number_text (decimal_value n h) ∙ decimal_fits n h
 
-number_again : (n : ℕ) → IsTrue (nat_le n 32767) → spells (grammar_of number) (lexeme_of (word (decimal n)) ∷ []) n
+number_again : (n : ℕ) → IsTrue (nat_le n 32767) → spells (grammar_of number) (printed_lexeme (word (decimal n)) ∷ []) n
 unfolding number
 number_again n h =
-    (lexeme_of (word (decimal n)), number_is n h, refl, sym (ap number_of (decimal_value n h) ∙ decimal_number n h))
+    (printed_lexeme (word (decimal n)), number_is n h, refl, sym (ap number_of (decimal_value n h) ∙ decimal_number n h))
 
 -- one setting for each option that is given
 abbrev attempts_settings : Option ℕ → List Setting
@@ -52,45 +53,45 @@ attempts_again : (attempts : Option ℕ) → IsTrue (is_option_number attempts)
 unfolding setting is
 attempts_again None h = refl
 attempts_again (Some n) h =
-    one (spells (grammar_of setting)) (lexeme_of (word (codes "FAILED_LOGIN_ATTEMPTS")) ∷ lexeme_of (word (decimal n)) ∷ []) (Attempts n)
-    (inl (lexeme_of (word (codes "FAILED_LOGIN_ATTEMPTS")), lexeme_of (word (decimal n)) ∷ [], refl, refl, (n, number_again n h, refl)))
+    one (spells (grammar_of setting)) (printed_lexeme (word (codes "FAILED_LOGIN_ATTEMPTS")) ∷ printed_lexeme (word (decimal n)) ∷ []) (Attempts n)
+    (inl (printed_lexeme (word (codes "FAILED_LOGIN_ATTEMPTS")), printed_lexeme (word (decimal n)) ∷ [], refl, refl, (n, number_again n h, refl)))
 
-lock_days : (n : ℕ) → IsTrue (nat_le n 32767) → spells (grammar_of lock_time) (lexeme_of (word (decimal n)) ∷ []) (Days n)
+lock_days : (n : ℕ) → IsTrue (nat_le n 32767) → spells (grammar_of lock_time) (printed_lexeme (word (decimal n)) ∷ []) (Days n)
 unfolding lock_time
 lock_days n h = inr (n, number_again n h, refl)
 
-unbounded : spells (grammar_of lock_time) (lexeme_of (word (codes "UNBOUNDED")) ∷ []) Unbounded
+unbounded : spells (grammar_of lock_time) (printed_lexeme (word (codes "UNBOUNDED")) ∷ []) Unbounded
 unfolding lock_time is
-unbounded = inl (lexeme_of (word (codes "UNBOUNDED")), [], refl, refl, (refl, refl))
+unbounded = inl (printed_lexeme (word (codes "UNBOUNDED")), [], refl, refl, (refl, refl))
 
 days_again : (days : Option LockTime) → IsTrue (is_lock_time days)
     → repeated (spells (grammar_of setting)) (printed_lexemes (days_tokens days)) (days_settings days)
 unfolding setting words_of is
 days_again None h = refl
 days_again (Some (Days n)) h =
-    one (spells (grammar_of setting)) (lexeme_of (word (codes "PASSWORD_LOCK_TIME")) ∷ lexeme_of (word (decimal n)) ∷ []) (Lock (Days n))
-    (inr (inl (lexeme_of (word (codes "PASSWORD_LOCK_TIME")), lexeme_of (word (decimal n)) ∷ [], refl, refl, (Days n, lock_days n h, refl))))
+    one (spells (grammar_of setting)) (printed_lexeme (word (codes "PASSWORD_LOCK_TIME")) ∷ printed_lexeme (word (decimal n)) ∷ []) (Lock (Days n))
+    (inr (inl (printed_lexeme (word (codes "PASSWORD_LOCK_TIME")), printed_lexeme (word (decimal n)) ∷ [], refl, refl, (Days n, lock_days n h, refl))))
 days_again (Some Unbounded) h =
-    one (spells (grammar_of setting)) (lexeme_of (word (codes "PASSWORD_LOCK_TIME")) ∷ lexeme_of (word (codes "UNBOUNDED")) ∷ []) (Lock Unbounded)
-    (inr (inl (lexeme_of (word (codes "PASSWORD_LOCK_TIME")), lexeme_of (word (codes "UNBOUNDED")) ∷ [], refl, refl, (Unbounded, unbounded, refl))))
+    one (spells (grammar_of setting)) (printed_lexeme (word (codes "PASSWORD_LOCK_TIME")) ∷ printed_lexeme (word (codes "UNBOUNDED")) ∷ []) (Lock Unbounded)
+    (inr (inl (printed_lexeme (word (codes "PASSWORD_LOCK_TIME")), printed_lexeme (word (codes "UNBOUNDED")) ∷ [], refl, refl, (Unbounded, unbounded, refl))))
 
-lock_on : spells (grammar_of lock) (lexeme_of (word (codes "LOCK")) ∷ []) true
+lock_on : spells (grammar_of lock) (printed_lexeme (word (codes "LOCK")) ∷ []) true
 unfolding lock is
-lock_on = inl (lexeme_of (word (codes "LOCK")), [], refl, refl, (refl, refl))
+lock_on = inl (printed_lexeme (word (codes "LOCK")), [], refl, refl, (refl, refl))
 
-lock_off : spells (grammar_of lock) (lexeme_of (word (codes "UNLOCK")) ∷ []) false
+lock_off : spells (grammar_of lock) (printed_lexeme (word (codes "UNLOCK")) ∷ []) false
 unfolding lock is
-lock_off = inr (lexeme_of (word (codes "UNLOCK")), [], refl, refl, (refl, refl))
+lock_off = inr (printed_lexeme (word (codes "UNLOCK")), [], refl, refl, (refl, refl))
 
 locked_again : (locked : Option Bool) → repeated (spells (grammar_of setting)) (printed_lexemes (locked_tokens locked)) (locked_settings locked)
 unfolding setting words_of is
 locked_again None = refl
 locked_again (Some true) =
-    one (spells (grammar_of setting)) (lexeme_of (word (codes "ACCOUNT")) ∷ lexeme_of (word (codes "LOCK")) ∷ []) (Locked true)
-    (inr (inr (lexeme_of (word (codes "ACCOUNT")), lexeme_of (word (codes "LOCK")) ∷ [], refl, refl, (true, lock_on, refl))))
+    one (spells (grammar_of setting)) (printed_lexeme (word (codes "ACCOUNT")) ∷ printed_lexeme (word (codes "LOCK")) ∷ []) (Locked true)
+    (inr (inr (printed_lexeme (word (codes "ACCOUNT")), printed_lexeme (word (codes "LOCK")) ∷ [], refl, refl, (true, lock_on, refl))))
 locked_again (Some false) =
-    one (spells (grammar_of setting)) (lexeme_of (word (codes "ACCOUNT")) ∷ lexeme_of (word (codes "UNLOCK")) ∷ []) (Locked false)
-    (inr (inr (lexeme_of (word (codes "ACCOUNT")), lexeme_of (word (codes "UNLOCK")) ∷ [], refl, refl, (false, lock_off, refl))))
+    one (spells (grammar_of setting)) (printed_lexeme (word (codes "ACCOUNT")) ∷ printed_lexeme (word (codes "UNLOCK")) ∷ []) (Locked false)
+    (inr (inr (printed_lexeme (word (codes "ACCOUNT")), printed_lexeme (word (codes "UNLOCK")) ∷ [], refl, refl, (false, lock_off, refl))))
 
 abbrev options_with : Option ℕ → Option LockTime → Option Bool → AccountOptions
 options_with attempts days locked = record { attempts = attempts; days = days; locked = locked }

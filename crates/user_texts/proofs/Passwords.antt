@@ -4,19 +4,19 @@ use Rattle.std.specs.Prelude.{codes}
 use Rattle.acl_grammar.specs.Spelling.{spells}
 use Rattle.acl_names.specs.declared.auth.AuthId.{AuthId}
 use Rattle.acl_names.specs.declared.policy.Verifier.{Verifier}
+use Rattle.canonical_texts.proofs.Lexemes.{lexemes_append}
 use Rattle.canonical_texts.specs.Tokens.{account_tokens, altered_tokens, digits_token, new_tokens, password_tokens, word, words_of}
 use Rattle.grant_words.proofs.Apart.{both_right}
 use Rattle.grant_words.specs.Classes.{has_sort, is, word as a_word}
 use Rattle.grant_words.specs.Classes.Sort.{string as string_sort}
+use Rattle.grant_words.specs.Lexemes.{printed_lexeme, printed_lexemes}
 use Rattle.grant_words.specs.Names.{account}
 use Rattle.grant_words.specs.Syntax.{grammar_of}
 use Rattle.grant_words.specs.declared.lexeme.Lexeme.{Lexeme}
 use Rattle.user_statements.specs.Secrets.{auth, by_secret, digest_class, digest_of, is_digest, secret}
 use Rattle.user_statements.specs.Statements.{altered_account, new_account}
 use Rattle.user_texts.proofs.Digests.{IsDigest, digits_fit, digits_mean, digits_value, given_digest, password_digest}
-use Rattle.user_texts.proofs.Lists.{lexemes_append}
 use Rattle.user_texts.proofs.Names.{account_again}
-use Rattle.user_texts.specs.Lexemes.{lexeme_of, printed_lexemes}
 
 pub secret_digest : (ts : List Lexeme) (v : Verifier) → spells (grammar_of secret) ts v → IsDigest v
 unfolding secret is
@@ -24,24 +24,24 @@ secret_digest ts v (inl (t, us, h, cut, (x, here, one, value))) =
     subst IsDigest (sym value) (given_digest x.value (both_right (has_sort string_sort x.kind x.value) (is_digest x.value) here))
 secret_digest ts v (inr (x, here, one, value)) = subst IsDigest (sym value) (password_digest x.value)
 
-verifier_is : IsTrue (is (a_word (codes "VERIFIER")) (lexeme_of (word (codes "VERIFIER"))))
+verifier_is : IsTrue (is (a_word (codes "VERIFIER")) (printed_lexeme (word (codes "VERIFIER"))))
 unfolding is
 verifier_is = refl
 
-digits_are : (v : Verifier) → IsDigest v → IsTrue (is digest_class (lexeme_of (digits_token v)))
+digits_are : (v : Verifier) → IsDigest v → IsTrue (is digest_class (printed_lexeme (digits_token v)))
 unfolding is
 digits_are v digest = ap is_digest (digits_value v.0) ∙ digits_fit v digest
 
 -- VERIFIER and the digits
-pub secret_written : (v : Verifier) → IsDigest v → spells (grammar_of secret) (lexeme_of (word (codes "VERIFIER")) ∷ lexeme_of (digits_token v) ∷ []) v
+pub secret_written : (v : Verifier) → IsDigest v → spells (grammar_of secret) (printed_lexeme (word (codes "VERIFIER")) ∷ printed_lexeme (digits_token v) ∷ []) v
 unfolding secret
 secret_written v digest =
     inl (
-      lexeme_of (word (codes "VERIFIER")),
-      lexeme_of (digits_token v) ∷ [],
+      printed_lexeme (word (codes "VERIFIER")),
+      printed_lexeme (digits_token v) ∷ [],
       verifier_is,
       refl,
-      (lexeme_of (digits_token v), digits_are v digest, refl, digits_mean v digest ∙ ap digest_of (sym (digits_value v.0))),
+      (printed_lexeme (digits_token v), digits_are v digest, refl, digits_mean v digest ∙ ap digest_of (sym (digits_value v.0))),
     )
 
 auth_digest : (ts : List Lexeme) (v : Verifier) → spells (grammar_of auth) ts v → IsDigest v
@@ -52,11 +52,11 @@ auth_digest ts v (t, us, h, cut, (t', us', h', cut', k)) = secret_digest us' v k
 password_written : (v : Verifier) → IsDigest v → spells (grammar_of auth) (printed_lexemes (password_tokens v)) v
 unfolding by_secret words_of is
 password_written v digest = (
-  lexeme_of (word (codes "IDENTIFIED")),
-  lexeme_of (word (codes "BY")) ∷ lexeme_of (word (codes "VERIFIER")) ∷ lexeme_of (digits_token v) ∷ [],
+  printed_lexeme (word (codes "IDENTIFIED")),
+  printed_lexeme (word (codes "BY")) ∷ printed_lexeme (word (codes "VERIFIER")) ∷ printed_lexeme (digits_token v) ∷ [],
   refl,
   refl,
-  (lexeme_of (word (codes "BY")), lexeme_of (word (codes "VERIFIER")) ∷ lexeme_of (digits_token v) ∷ [], refl, refl, secret_written v digest),
+  (printed_lexeme (word (codes "BY")), printed_lexeme (word (codes "VERIFIER")) ∷ printed_lexeme (digits_token v) ∷ [], refl, refl, secret_written v digest),
 )
 
 pub new_again : (ts : List Lexeme) (v : AuthId × Verifier) → spells (grammar_of new_account) ts v → spells (grammar_of new_account) (printed_lexemes (new_tokens v)) v

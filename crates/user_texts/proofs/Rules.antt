@@ -5,15 +5,15 @@ use Rattle.acl_grammar.specs.Spelling.{spells}
 use Rattle.acl_stmt.specs.declared.statement.Statement.{Statement}
 use Rattle.canonical_texts.specs.Tokens.{tokens_if, word, words_of}
 use Rattle.grant_words.specs.Classes.{is}
+use Rattle.grant_words.specs.Lexemes.{printed_lexeme, printed_lexemes}
 use Rattle.grant_words.specs.Syntax.{grammar_of}
 use Rattle.grant_words.specs.declared.lexeme.Lexeme.{Lexeme}
 use Rattle.user_statements.specs.Flags.{if_exists, if_not_exists, with_admin_option}
 use Rattle.user_statements.specs.Statements.{alter_user, create, create_role, create_user, drop, drop_role, drop_user, grant_roles, on_grants, rename_user, revoke, revoke_all, revoke_roles, set, set_activate_all, set_default_role, set_mandatory, set_password, set_persist, user_statement}
-use Rattle.user_texts.specs.Lexemes.{lexeme_of, printed_lexemes}
 
 -- a keyword
 abbrev pub key : List ℕ → Lexeme
-key text = lexeme_of (word text)
+key text = printed_lexeme (word text)
 
 pub if_not_exists_again : (b : Bool) → spells (grammar_of if_not_exists) (printed_lexemes (tokens_if b (words_of (codes "IF NOT EXISTS")))) b
 unfolding if_not_exists words_of is

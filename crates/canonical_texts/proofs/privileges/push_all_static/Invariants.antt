@@ -1,8 +1,8 @@
 use Rattle.std.proofs.Common.{◌≡◌, ◌++◌, map, string_bytes}
-use Rattle.canonical_texts.specs.Lists.{each_below}
-use Rattle.canonical_texts.specs.Privileges.{static_at}
+use Rattle.priv_items.specs.Canonical.{each_below, static_at}
+use Rattle.canonical_texts.specs.Privileges.{item_text}
 use Rattle.canonical_texts.proofs.privileges.push_all_static.Given as goal
 
 abbrev pub invariant-loop-number : goal.invariant-loop-number
 invariant-loop-number l =
-    map string_bytes l.items.items ≡ map string_bytes l.initial.items.items ++ each_below l.number (static_at l.privileges)
+    map string_bytes l.items.items ≡ map string_bytes l.initial.items.items ++ each_below l.number (static_at item_text l.privileges)

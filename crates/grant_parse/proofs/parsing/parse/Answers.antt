@@ -1,7 +1,7 @@
 use Rattle.grant_parse.proofs.Unique.{one_statement, statement_meant_once}
 use Rattle.grant_parse.specs.Meaning.{MeansStatement, level_fault}
 use Rattle.grant_parse.specs.Statements.{SpellsStatement}
-use Rattle.grant_texts.proofs.Once.{answered_exactly, answered_only}
+use Rattle.grant_parse.proofs.Once.{answered_exactly, answered_only}
 use Rattle.grant_parse.proofs.parsing.parse.Goals as goal
 
 pub returns-clause-only : goal.returns-clause-only

@@ -1,7 +1,7 @@
 use Rattle.grant_parse.proofs.Unique.{one_request, request_meant_once}
 use Rattle.grant_parse.specs.Meaning.{MeansRequest, request_fault}
 use Rattle.grant_parse.specs.Statements.{SpellsRequest}
-use Rattle.grant_texts.proofs.Once.{answered_exactly, answered_only}
+use Rattle.grant_parse.proofs.Once.{answered_exactly, answered_only}
 use Rattle.grant_parse.proofs.parsing.parse_request.Goals as goal
 
 pub returns-clause-only : goal.returns-clause-only

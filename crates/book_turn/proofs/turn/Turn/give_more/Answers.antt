@@ -1,7 +1,7 @@
 use Rattle.std.proofs.Common.{rules, refl, inr}
 use Rattle.book_turn.specs.Views.{counting}
 use Rattle.book_turn.proofs.Turns.{counts_at, gives_at}
-use Rattle.book_turn.proofs.Calls.{counted, given}
+use Rattle.book_turn.proofs.Calls.{counted_book, given}
 use Rattle.book_turn.proofs.turn.Turn.give_more.Goals as goal
 
 pub fetch_add-requires : goal.fetch_add-requires
@@ -13,9 +13,9 @@ store-requires g c = let b = g.B.Logged in let v = c.args.seat.now.me.0 in (
   search rules,
   search rules,
   gives_at b.log b.origin b.caller_of _ _ _ (counting b.caller_of (b.log c.args.book) v) c.args.book c.args.self.now.sized.1
-      (counted b.log b.caller_of _ _ v c.args.book c.put_in.ensures.book c.fetch_add.ensures.2) c.requires.empty.1 refl (inr c.requires.origin),
+      (counted_book b.log b.caller_of _ _ v c.args.book c.put_in.ensures.book c.fetch_add.ensures.2) c.requires.empty.1 refl (inr c.requires.origin),
 )
 
 pub returns-clause-given : goal.returns-clause-given
 returns-clause-given g c = let b = g.B.Logged in let v = c.args.seat.now.me.0 in
-    given b.origin _ _ (counting b.caller_of (b.log c.args.book) v) c.args.book (counted b.log b.caller_of _ _ v c.args.book c.put_in.ensures.book c.fetch_add.ensures.2) c.store.ensures.2
+    given b.origin _ _ (counting b.caller_of (b.log c.args.book) v) c.args.book (counted_book b.log b.caller_of _ _ v c.args.book c.put_in.ensures.book c.fetch_add.ensures.2) c.store.ensures.2

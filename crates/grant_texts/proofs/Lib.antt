@@ -1,4 +1,0 @@
-pub mod Disjoint
-pub mod Once
-pub mod Places
-pub mod Few

@@ -1,2 +1,0 @@
-pub mod Disjointness
-pub mod Texts
