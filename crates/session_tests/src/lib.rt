@@ -1,6 +1,8 @@
-//! Tests of failed logins and of one history for callers that run at once.
+//! Tests of answers and their texts, of failed logins, and of one history for callers that run at once.
 #![tactic(auto)]
 
+#[cfg(test)]
+mod answers;
 #[cfg(test)]
 mod digests;
 #[cfg(test)]

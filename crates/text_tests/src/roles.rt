@@ -2,10 +2,9 @@
 use acl_grammar::{Found, Refusal};
 use acl_items::Items;
 use acl_names::AuthId;
-use grant_lex::tokens;
+use grant_lex::{is_reserved, tokens};
 use grant_words::{Lexeme, accounts, lexemes, roles};
 use mandatory_roles::read_roles;
-use reserved_words::is_reserved;
 use std::alloc::Global;
 use std::process::Abort;
 use std::test::Fail;
