@@ -1,6 +1,6 @@
 -- The rows that a legal GRANT gives may stand.
-use Rattle.std.proofs.Common.{◌≡◌, ◌∙◌, ap, sym, refl, ℕ, zero, suc, ◌<◌, ◌^◌, Bool, true, false, cond, not, ◌&&◌, ◌||◌, List, [], ◌∷◌, Some, None, nat_eq, inl, inr, arith, true≢false}
-use Rattle.std.proofs.lemmas.Bool.{and_parts, cases_eq, eqb-true, lt-ltb, ltb-true, or_cases}
+use Rattle.std.proofs.Common.{◌≡◌, ◌∙◌, ap, sym, refl, ℕ, ◌<◌, Bool, true, false, cond, not, ◌&&◌, ◌||◌, List, [], ◌∷◌, Some, None, nat_eq, inl, inr, true≢false}
+use Rattle.std.proofs.lemmas.Bool.{and_parts, eqb-true, lt-ltb, or_cases}
 use Rattle.std.specs.List.{find, list_any}
 use Rattle.std.specs.Option.{option_map}
 use Rattle.acl_names.proofs.SameAuth.{equal_from_same_auth}
@@ -34,7 +34,7 @@ use Rattle.grant_effects.proofs.Splitting.{gives_split}
 use Rattle.grant_effects.specs.Given.{column_given, dynamic_given, given_of, limit_gives, restriction_given, static_given}
 use Rattle.grant_effects.specs.Granted.{grants_number}
 use Rattle.priv_sets.specs.Levels.{grant_option, has_level}
-use Rattle.priv_sets.specs.StaticSet.{bits_of, holds, is_known}
+use Rattle.priv_sets.specs.StaticSet.{holds, is_known}
 use Rattle.priv_sets.specs.declared.level.Level.TheVariants as level
 
 -- each account of the list stands

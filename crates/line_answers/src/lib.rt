@@ -5,10 +5,10 @@ mod answer;
 mod points;
 mod refusal_text;
 mod report;
-mod report_text;
+mod report_display;
 mod text;
 
 pub use answer::{Answer, Denial, LineRefusal, LoginRefusal};
 pub use points::Points;
 pub use report::{LineAnswer, Report, SessionReport, report_of};
-pub use report_text::report_text;
+pub use report_display::report_text;

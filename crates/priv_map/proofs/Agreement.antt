@@ -1,9 +1,9 @@
 -- The check by copies is the check of the states that they were read in.
-use Rattle.std.proofs.Common.{◌≡◌, ◌∙◌, ap, sym, refl, ℕ, zero, suc, ◌<◌, ◌≤◌, ◌==◌, Bool, true, false, ◌&&◌, ◌||◌, cond, not, nat_lt, List, [], ◌∷◌, ◌++◌, Option, Some, None, arith, inl, inr, IsTrue}
-use Rattle.std.proofs.Math.Bool.{or-false, or-true}
-use Rattle.std.proofs.lemmas.Bool.{and_from, and_parts, cases_eq, eqb-true, lt-ltb, ltb-true, or_cases, or_left, or_right}
+use Rattle.std.proofs.Common.{◌≡◌, ◌∙◌, ap, sym, refl, ℕ, zero, suc, ◌<◌, ◌≤◌, ◌==◌, Bool, true, false, ◌&&◌, ◌||◌, cond, not, nat_lt, List, [], ◌∷◌, ◌++◌, Option, Some, None, arith, inl, inr}
+use Rattle.std.proofs.Math.Bool.{or-true}
+use Rattle.std.proofs.lemmas.Bool.{and_from, and_parts, eqb-true, lt-ltb, ltb-true, or_cases, or_left, or_right}
 use Rattle.std.proofs.lemmas.List.Folds.{list_all-append}
-use Rattle.std.specs.List.{find, flat_map, list_all}
+use Rattle.std.specs.List.{find, list_all}
 use Rattle.std.specs.Option.{option_map}
 use Rattle.acl_names.proofs.SameAuth.{equal_from_text_eq}
 use Rattle.acl_names.specs.Text.{text_eq}
@@ -13,7 +13,7 @@ use Rattle.acl_model.specs.Verdict.{Need, Reading, Readings, columns_from, dynam
 use Rattle.acl_model.specs.Words.{names_dynamic, names_static}
 use Rattle.acl_rows.proofs.Below.{below_at}
 use Rattle.acl_stmt.specs.Columns.{is_column_list}
-use Rattle.acl_stmt.specs.Requests.{all_below, have_levels, is_request}
+use Rattle.acl_stmt.specs.Requests.{all_below, is_request}
 use Rattle.acl_stmt.specs.Targets.{level_of}
 use Rattle.acl_stmt.specs.declared.columns.ColumnPriv.{ColumnPriv}
 use Rattle.acl_stmt.specs.declared.privileges.PrivList.{PrivList}
@@ -26,7 +26,6 @@ use Rattle.priv_map.specs.Copies.{by_mask, column_needs, columns_needs, first_mi
 use Rattle.priv_map.specs.Readings.{IsCurrentRead, IsReadAt, reading_of, readings_of, sources_of}
 use Rattle.priv_map.specs.declared.acting.Acting.{Acting}
 use Rattle.priv_map.specs.declared.schema_held.SchemaHeld.{SchemaHeld}
-use Rattle.priv_sets.specs.DynamicSet.{holds_dynamic}
 use Rattle.priv_sets.specs.Levels.{grant_option, has_level, is_one_of, of_columns, of_routines, of_schemas, of_tables}
 use Rattle.priv_sets.specs.StaticSet.{holds}
 use Rattle.priv_sets.specs.declared.level.Level.TheVariants as level

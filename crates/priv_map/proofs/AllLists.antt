@@ -1,8 +1,8 @@
 -- ALL without anything beside it is a list of privileges, and may be asked for on everything and on a schema.
-use Rattle.std.proofs.Common.{◌≡◌, refl, ap, ℕ, true, false, ◌&&◌, ◌||◌, ◌==◌, not, List, []}
+use Rattle.std.proofs.Common.{◌≡◌, refl, ap, ℕ, true, ◌||◌, ◌==◌, not, List, []}
 use Rattle.std.proofs.lemmas.Bool.{and_from}
 use Rattle.acl_stmt.specs.Privileges.{is_no_list, is_priv_list}
-use Rattle.acl_stmt.specs.Requests.{all_below, have_levels, is_request}
+use Rattle.acl_stmt.specs.Requests.{have_levels, is_request}
 use Rattle.acl_stmt.specs.Targets.{is_table, is_target, level_of}
 use Rattle.acl_stmt.specs.declared.columns.ColumnPriv.{ColumnPriv}
 use Rattle.acl_stmt.specs.declared.privileges.PrivList.{PrivList}

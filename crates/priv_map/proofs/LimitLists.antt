@@ -1,7 +1,7 @@
 -- Limits that are gathered schema by schema.
-use Rattle.std.proofs.Common.{◌≡◌, ◌∙◌, ap, sym, subst, refl, ℕ, zero, suc, ◌+◌, ◌<◌, ◌≤◌, ◌==◌, Bool, true, false, ◌&&◌, ◌||◌, not, nat_eq, List, [], ◌∷◌, ◌++◌, map, length, take, drop, get_or, arith, add-one, append_assoc, append-nil, IsTrue, drop-cons, drop_of_length-le}
-use Rattle.std.proofs.Math.Bool.{or-false, or-true}
-use Rattle.std.proofs.lemmas.Bool.{and_from, and_parts, eqb-true, not_from_false, or_from, or_left, or_right}
+use Rattle.std.proofs.Common.{◌≡◌, ◌∙◌, ap, sym, subst, refl, ℕ, zero, suc, ◌+◌, ◌<◌, ◌≤◌, ◌==◌, Bool, true, false, ◌&&◌, ◌||◌, not, List, [], ◌∷◌, ◌++◌, map, length, take, drop, get_or, arith, add-one, append_assoc, append-nil, drop-cons, drop_of_length-le}
+use Rattle.std.proofs.Math.Bool.{or-false}
+use Rattle.std.proofs.lemmas.Bool.{and_from, and_parts, eqb-true, not_from_false, or_left, or_right}
 use Rattle.std.proofs.lemmas.List.{map-append}
 use Rattle.std.proofs.lemmas.List.Folds.{list_any-append, list_any_more}
 use Rattle.std.specs.List.{AllByRecursion, list_any}
@@ -9,14 +9,14 @@ use Rattle.std.specs.List.Sorted.{IsStrictlySortedBy}
 use Rattle.std.specs.Ordering.{is_lt}
 use Rattle.std.specs.declared.cmp.Ordering.{Ordering}
 use Rattle.std.specs.declared.cmp.Ordering.TheVariants.{Less}
-use Rattle.acl_names.proofs.SameAuth.{equal_from_text_eq, text_eq_itself}
+use Rattle.acl_names.proofs.SameAuth.{equal_from_text_eq}
 use Rattle.acl_names.specs.AuthId.{same_auth}
 use Rattle.acl_names.specs.Text.{text_cmp, text_eq}
 use Rattle.acl_names.specs.declared.auth.AuthId.{AuthId}
 use Rattle.acl_model.specs.Rows.{same_row}
 use Rattle.acl_model.specs.Words.{limited}
 use Rattle.acl_model.specs.declared.row.Row.{Row}
-use Rattle.acl_model.specs.declared.row.Row.TheVariants.{Account, Global, Dynamic, DynamicGrant, Schema, Table, Column, Function, Procedure, Edge, Admin, Default, Restriction}
+use Rattle.acl_model.specs.declared.row.Row.TheVariants.{Restriction}
 use Rattle.acl_stmt.specs.Entries.{are_limits_in_order}
 use Rattle.acl_stmt.specs.Limits.{is_limit}
 use Rattle.acl_stmt.specs.Requests.{all_below}

@@ -1,14 +1,13 @@
 -- What is read of the rows is what the state says.
-use Rattle.std.proofs.Common.{◌≡◌, ◌∙◌, ap, sym, subst, refl, ℕ, ◌<◌, ◌≤◌, Bool, true, false, ◌&&◌, ◌||◌, cond, not, List, [], ◌∷◌, Option, None, arith, inl, inr, IsTrue}
+use Rattle.std.proofs.Common.{◌≡◌, ◌∙◌, ap, sym, subst, refl, ℕ, ◌<◌, Bool, true, false, ◌&&◌, ◌||◌, cond, not, List, Option, None, inl, inr}
 use Rattle.std.proofs.Math.Bool.{or-false}
-use Rattle.std.proofs.lemmas.Bool.{cases_lt, and_parts}
+use Rattle.std.proofs.lemmas.Bool.{cases_lt}
 use Rattle.std.specs.List.{list_any}
 use Rattle.acl_names.proofs.SameAuth.{same_auth_itself}
 use Rattle.acl_names.specs.AuthId.{same_auth}
 use Rattle.acl_names.specs.declared.auth.AuthId.{AuthId}
 use Rattle.acl_model.specs.Rows.{holder, same_row}
 use Rattle.acl_model.specs.State.{State}
-use Rattle.acl_model.specs.Rights.{holds_globally, is_restricted}
 use Rattle.acl_model.specs.Verdict.{Reading}
 use Rattle.acl_model.specs.Words.{limited}
 use Rattle.acl_model.specs.declared.row.Row.{Row}

@@ -1,7 +1,7 @@
 use Rattle.std.proofs.Common.{take}
 use Rattle.std.specs.Fmt.{HasWritten, IsPlainFormatter}
 use Rattle.line_answers.specs.ReportTexts.{told_lines}
-use Rattle.line_answers.proofs.report_text.SessionReportDisplay.fmt.Given as goal
+use Rattle.line_answers.proofs.report_display.SessionReportDisplay.fmt.Given as goal
 
 abbrev pub invariant-loop-told : goal.invariant-loop-told
 invariant-loop-told g l =
