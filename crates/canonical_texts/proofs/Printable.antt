@@ -15,7 +15,7 @@ use Rattle.grant_lex.specs.Token.{IsCut}
 use Rattle.mandatory_roles.specs.Text.{roles_text}
 use Rattle.canonical_texts.specs.StatementTokens.{canonical_tokens, default_tokens, first_word, for_tokens, further_tokens}
 use Rattle.canonical_texts.specs.Statements.{canonical_text}
-use Rattle.canonical_texts.specs.Tokens.{altered_tokens, new_tokens, opening, renamed_tokens, tokens_if, word, words_of}
+use Rattle.canonical_texts.specs.Tokens.{altered_tokens, new_tokens, opening_word, renamed_tokens, tokens_if, word, words_of}
 use Rattle.canonical_texts.proofs.Chains.{IsSegment, chain_printed, follows_start, no_tokens, segment_append, segment_list, segment_mark}
 use Rattle.canonical_texts.proofs.Segments.{account_segment, accounts_segment, altered_segment, digits_segment, if_segment, is_word_text, new_segment, opening_token, options_segment, privileges_segment, renamed_segment, string_then, target_segment, word_then, words_segment}
 use Rattle.canonical_texts.proofs.TokenTexts.{tokens_text}
@@ -105,7 +105,7 @@ first_is_word (SetActivateAll _) = refl
 pub canonical_printed : (s : Statement) → IsTrue (is_statement s) → ArePrinted (canonical_tokens s)
 canonical_printed s ok =
     let rest = further_segment s ok in
-    chain_printed (canonical_tokens s) (opening_token (first_word s) (first_is_word s), follows_start (opening (first_word s)) (further_tokens s) rest.starts, rest.chain)
+    chain_printed (canonical_tokens s) (opening_token (first_word s) (first_is_word s), follows_start (opening_word (first_word s)) (further_tokens s) rest.starts, rest.chain)
 
 pub canonical_cut : (s : Statement) → IsTrue (is_statement s) → IsCut (canonical_text s) (tokens_of 0 (canonical_tokens s))
 canonical_cut s ok = subst (λ l. IsCut l (tokens_of 0 (canonical_tokens s))) (tokens_text s) (printed_cut (canonical_tokens s) (canonical_printed s ok))

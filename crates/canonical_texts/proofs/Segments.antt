@@ -31,7 +31,7 @@ use Rattle.priv_sets.specs.DynamicNames.{dynamic_name, dynamic_names}
 use Rattle.priv_sets.specs.PlainNames.{plain_name, plain_names}
 use Rattle.priv_sets.specs.StaticSet.{holds}
 use Rattle.canonical_texts.specs.Quotes.{string_byte, string_inside, string_text}
-use Rattle.canonical_texts.specs.Tokens.{account_tokens, accounts_tokens, altered_tokens, attempts_tokens, column_tokens, columns_item_tokens, days_tokens, digits_token, item_tokens, list_tokens, locked_tokens, mark, name, new_tokens, opening, options_tokens, parts_of, password_tokens, privileges_tokens, renamed_tokens, same_tokens, spaced_name, string, target_tokens, tokens_if, word, words_of}
+use Rattle.canonical_texts.specs.Tokens.{account_tokens, accounts_tokens, altered_tokens, attempts_tokens, column_tokens, columns_item_tokens, days_tokens, digits_token, item_tokens, list_tokens, locked_tokens, mark, name, new_tokens, opening_word, options_tokens, parts_of, password_tokens, privileges_tokens, renamed_tokens, same_tokens, spaced_name, string, target_tokens, tokens_if, word, words_of}
 use Rattle.canonical_texts.proofs.Chains.{IsChain, IsSegment, IsToken, follows_start, no_tokens, segment_append, segment_cons, segment_flat, segment_list, segment_mark}
 use Rattle.canonical_texts.proofs.Members.{below_none, below_suc}
 
@@ -52,7 +52,7 @@ word_is : (text : List ℕ) → is_word_text text ≡ true → IsOfSort Word tex
 word_is [] e = cc
 word_is (b ∷ bs) e = record { some = omega arith; each = word_each (b ∷ bs) e; ends = tt }
 
-pub opening_token : (text : List ℕ) → is_word_text text ≡ true → IsToken (opening text)
+pub opening_token : (text : List ℕ) → is_word_text text ≡ true → IsToken (opening_word text)
 opening_token text e = record { blanks = tt; sort = word_is text e }
 
 pub word_then : (text : List ℕ) (ps : List Printed) → is_word_text text ≡ true → IsSegment ps → IsSegment (word text ∷ ps)

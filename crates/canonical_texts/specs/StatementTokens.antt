@@ -8,7 +8,7 @@ use Rattle.acl_stmt.specs.declared.statement.Statement.TheVariants.{CreateUser, 
 use Rattle.grant_lex.specs.Printed.{Printed}
 use Rattle.mandatory_roles.specs.Text.{roles_text}
 use Rattle.canonical_texts.specs.Quotes.{string_text}
-use Rattle.canonical_texts.specs.Tokens.{account_tokens, accounts_tokens, altered_tokens, digits_token, list_tokens, mark, new_tokens, opening, options_tokens, privileges_tokens, renamed_tokens, spaced_mark, string, target_tokens, tokens_if, word, words_of}
+use Rattle.canonical_texts.specs.Tokens.{account_tokens, accounts_tokens, altered_tokens, digits_token, list_tokens, mark, new_tokens, opening_word, options_tokens, privileges_tokens, renamed_tokens, spaced_mark, string, target_tokens, tokens_if, word, words_of}
 
 abbrev pub default_tokens : DefaultForm → List Printed
 default_tokens form.Nothing = word (codes "NONE") ∷ []
@@ -65,4 +65,4 @@ first_word (SetActivateAll _) = codes "SET"
 
 -- the tokens of the canonical text, in order
 abbrev pub canonical_tokens : Statement → List Printed
-canonical_tokens statement = opening (first_word statement) ∷ further_tokens statement
+canonical_tokens statement = opening_word (first_word statement) ∷ further_tokens statement

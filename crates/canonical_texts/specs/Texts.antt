@@ -1,7 +1,7 @@
 -- The parts of statements, as they are written: each has one space before it.
 use Rattle.std.specs.Prelude.{ℕ, Bool, true, false, List, [], ◌++◌, Option, Some, None, codes, decimal}
 use Rattle.acl_names.specs.AuthId.{auth_text}
-use Rattle.acl_names.specs.Quoted.{quoted}
+use Rattle.acl_names.specs.Quoted.{pair_text}
 use Rattle.acl_names.specs.declared.auth.AuthId.{AuthId}
 use Rattle.acl_names.specs.declared.policy.LockTime.{LockTime}
 use Rattle.acl_names.specs.declared.policy.LockTime.TheVariants.{Days, Unbounded}
@@ -55,10 +55,6 @@ locked_text (Some false) = codes " ACCOUNT UNLOCK"
 
 abbrev pub options_text : AccountOptions → List ℕ
 options_text options = attempts_text options.attempts ++ (days_text options.days ++ locked_text options.locked)
-
--- two names with a dot between them
-abbrev pub pair_text : List ℕ → List ℕ → List ℕ
-pair_text schema name = quoted schema ++ (codes "." ++ quoted name)
 
 abbrev pub target_text : Target → List ℕ
 target_text on.Global = codes " *.*"

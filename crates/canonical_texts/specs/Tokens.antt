@@ -24,8 +24,8 @@ abbrev pub word : List ℕ → Printed
 word text = record { blanks = codes " "; kind = Word; text = text }
 
 -- the word that a statement begins with
-abbrev pub opening : List ℕ → Printed
-opening text = record { blanks = []; kind = Word; text = text }
+abbrev pub opening_word : List ℕ → Printed
+opening_word text = record { blanks = []; kind = Word; text = text }
 
 abbrev pub mark : ℕ → Printed
 mark b = record { blanks = []; kind = Mark b; text = b ∷ [] }

@@ -1,5 +1,6 @@
 ghost use Rattle.std.specs.Prelude.{◌≡◌, ◌++◌, OnOk, string_bytes};
-ghost use Rattle.canonical_texts.specs.Texts.{pair_text, target_text};
+ghost use Rattle.acl_names.specs.Quoted.{pair_text};
+ghost use Rattle.canonical_texts.specs.Texts.{target_text};
 
 use crate::quotes::{write_quoted, write_schema};
 use acl_names::Ident;

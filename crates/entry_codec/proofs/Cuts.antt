@@ -11,7 +11,7 @@ use Rattle.canonical_texts.proofs.Segments.{accounts_segment, if_segment, openin
 use Rattle.canonical_texts.proofs.TokenTexts.{tokens_text}
 use Rattle.canonical_texts.specs.StatementTokens.{canonical_tokens, further_tokens}
 use Rattle.canonical_texts.specs.Statements.{canonical_text}
-use Rattle.canonical_texts.specs.Tokens.{opening, words_of}
+use Rattle.canonical_texts.specs.Tokens.{opening_word, words_of}
 use Rattle.grant_lex.proofs.Prints.{printed_cut}
 use Rattle.grant_lex.specs.Printed.{ArePrinted, tokens_of}
 use Rattle.grant_lex.specs.Token.{IsCut}
@@ -48,13 +48,13 @@ grant_cut : (privileges : PrivList) (target : Target) (accounts : List AuthId) (
 grant_cut privileges target accounts option =
     let s = statement.Grant privileges target accounts option in
     let rest = grant_segment privileges target accounts option in
-    printed_is_cut s (chain_printed (canonical_tokens s) (opening_token (codes "GRANT") refl, follows_start (opening (codes "GRANT")) (further_tokens s) rest.starts, rest.chain))
+    printed_is_cut s (chain_printed (canonical_tokens s) (opening_token (codes "GRANT") refl, follows_start (opening_word (codes "GRANT")) (further_tokens s) rest.starts, rest.chain))
 
 revoke_cut : (privileges : PrivList) (target : Target) (accounts : List AuthId) → IsCutUp (statement.Revoke privileges target accounts)
 revoke_cut privileges target accounts =
     let s = statement.Revoke privileges target accounts in
     let rest = revoke_segment privileges target accounts in
-    printed_is_cut s (chain_printed (canonical_tokens s) (opening_token (codes "REVOKE") refl, follows_start (opening (codes "REVOKE")) (further_tokens s) rest.starts, rest.chain))
+    printed_is_cut s (chain_printed (canonical_tokens s) (opening_token (codes "REVOKE") refl, follows_start (opening_word (codes "REVOKE")) (further_tokens s) rest.starts, rest.chain))
 
 pub meant_cut : (raw : RawStatement) (s : Statement) → MeansStatement (inr raw) s → IsCutUp s
 meant_cut (Grant named target accounts option) s (list, meant, same) =

@@ -16,7 +16,7 @@ use Rattle.canonical_texts.proofs.Lexemes.{lexemes_append}
 use Rattle.canonical_texts.specs.Lexemes.{canonical_lexemes}
 use Rattle.canonical_texts.specs.Rules.{account_keeps_rules}
 use Rattle.canonical_texts.specs.StatementTokens.{further_tokens}
-use Rattle.canonical_texts.specs.Tokens.{accounts_tokens, opening, privileges_tokens, target_tokens, tokens_if, word, words_of}
+use Rattle.canonical_texts.specs.Tokens.{accounts_tokens, opening_word, privileges_tokens, target_tokens, tokens_if, word, words_of}
 use Rattle.grant_lex.specs.Printed.{Printed}
 use Rattle.grant_parse.specs.Meaning.{MeansStatement, level_fault}
 use Rattle.grant_words.specs.Classes.{is}
@@ -92,7 +92,7 @@ module _ (list : PrivList) (on_what : Target) (all : List AuthId) (columns : lis
   grant_spelled given =
       let option : List Printed = tokens_if given (words_of (codes "WITH GRANT OPTION")) in
       inl (
-        printed_lexeme (opening (codes "GRANT")),
+        printed_lexeme (opening_word (codes "GRANT")),
         printed_lexemes (further_tokens (statement.Grant list on_what all given)),
         refl,
         refl,
@@ -119,7 +119,7 @@ module _ (list : PrivList) (on_what : Target) (all : List AuthId) (columns : lis
   unfolding privilege_statement revoke further_tokens is
   revoke_spelled =
       inr (
-        printed_lexeme (opening (codes "REVOKE")),
+        printed_lexeme (opening_word (codes "REVOKE")),
         printed_lexemes (further_tokens (statement.Revoke list on_what all)),
         refl,
         refl,

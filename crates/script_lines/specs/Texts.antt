@@ -2,10 +2,7 @@
 use Rattle.std.specs.Prelude.{◌≡◌, ℕ, ◌||◌, ◌==◌, Bool, false, not, List, [], ◌∷◌, filter, refl}
 use Rattle.std.specs.List.{enumerate_from, list_all}
 use Rattle.std.specs.Str.Lines.{lines}
-
--- a space or a tab
-abbrev pub is_blank : ℕ → Bool
-is_blank byte = byte == 32 || byte == 9
+use Rattle.grant_lex.specs.Class.{is_blank}
 
 -- a text that begins with `#`
 abbrev pub is_comment : List ℕ → Bool

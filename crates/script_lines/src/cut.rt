@@ -2,7 +2,8 @@
 ghost use Rattle.std.specs.Prelude.{◌≡◌, ◌≢◌, ℕ, ◌<◌, ◌≤◌, ◌∷◌, [], length, slice_index, IfSome, IsNone};
 ghost use Rattle.std.specs.List.{list_all};
 ghost use Rattle.std.specs.Str.Lines.{lines, strip_carriage_return};
-ghost use Rattle.script_lines.specs.Texts.{is_blank, is_comment, is_passed_over};
+ghost use Rattle.grant_lex.specs.Class.{is_blank};
+ghost use Rattle.script_lines.specs.Texts.{is_comment, is_passed_over};
 
 /// The first line, and the bytes of the other lines.
 pub(crate) fn first_line(bytes: &[u8]) -> Option<(&[u8], &[u8])>

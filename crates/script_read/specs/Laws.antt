@@ -22,7 +22,7 @@ use Rattle.script_lines.specs.declared.refusal.CommandRefusal.{CommandRefusal}
 use Rattle.script_lines.specs.declared.refusal.CommandRefusal.TheVariants.{Text, Unbuilt}
 use Rattle.script_read.specs.Built.{IsBuiltCommand, IsBuiltRefusal, IsTextRefusal}
 use Rattle.script_read.specs.Commands.{IsCommand, IsCommandRefusal, IsMisplaced, IsMisspelled, IsMistimed, IsTimed, IsUntimed}
-use Rattle.script_commands.proofs.Moments.{option_once}
+use Rattle.script_commands.proofs.OneOption.{option_once}
 use Rattle.script_read.specs.Written.{MeansCommand, MeansWritten, SpellsWritten, connect_at, written_fault}
 use Rattle.script_read.specs.declared.command.Command.{Command}
 use Rattle.script_read.specs.declared.command.Command.TheVariants as made
