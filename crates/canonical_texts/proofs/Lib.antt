@@ -1,4 +1,3 @@
-pub mod Accounts
 pub mod Chains
 pub mod Characters
 pub mod Lexemes
@@ -6,5 +5,6 @@ pub mod Members
 pub mod PartTexts
 pub mod Printable
 pub mod Segments
+pub mod SpelledAccounts
 pub mod Strings
 pub mod TokenTexts

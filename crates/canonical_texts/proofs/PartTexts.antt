@@ -1,5 +1,6 @@
 -- What the tokens of the parts of statements print.
 use Rattle.std.proofs.Common.{◌≡◌, ℕ, zero, suc, Bool, true, false, cond, eqb, List, [], ◌∷◌, ◌++◌, map, Option, Some, None, refl, sym, ap, ◌∙◌, append_assoc, append-nil}
+use Rattle.std.proofs.lemmas.List.{map-append}
 use Rattle.std.specs.Int.{bit_at}
 use Rattle.std.specs.List.{flat_map}
 use Rattle.std.specs.Prelude.{codes, decimal}
@@ -15,11 +16,11 @@ use Rattle.acl_stmt.specs.declared.privileges.PrivList.{PrivList}
 use Rattle.acl_stmt.specs.declared.target.Target.{Target}
 use Rattle.acl_stmt.specs.declared.target.Target.TheVariants as on
 use Rattle.grant_lex.specs.Printed.{Printed, printed}
+use Rattle.mandatory_roles.proofs.Bytes.{is_byte}
+use Rattle.priv_items.specs.Canonical.{columns_at, dynamic_at, each_below, held_by, listed_by, member_if, or_usage, static_at}
 use Rattle.priv_sets.specs.DynamicNames.{dynamic_name}
 use Rattle.priv_sets.specs.PlainNames.{plain_name}
 use Rattle.priv_sets.specs.StaticSet.{holds}
-use Rattle.mandatory_roles.proofs.Bytes.{is_byte}
-use Rattle.priv_items.specs.Canonical.{columns_at, dynamic_at, each_below, held_by, listed_by, member_if, or_usage, static_at}
 use Rattle.canonical_texts.specs.Lists.{list_text, text_if}
 use Rattle.canonical_texts.specs.Privileges.{columns_item, item_text, privileges_text, same_text}
 use Rattle.canonical_texts.specs.Texts.{accounts_text, altered_text, attempts_text, days_text, locked_text, members_text, new_text, options_text, password_text, renamed_text, target_text}
@@ -157,10 +158,6 @@ spaced text = codes " " ++ text
 member_print : (test : Bool) (tokens : List Printed) (text : List ℕ) → printed tokens ≡ spaced text → map printed (member_if test tokens) ≡ map spaced (member_if test text)
 member_print true tokens text e = ap (λ l. l ∷ []) e
 member_print false tokens text e = refl
-
-map-append : {A B : Type 0} (f : A → B) (xs ys : List A) → map f (xs ++ ys) ≡ map f xs ++ map f ys
-map-append f [] ys = refl
-map-append f (x ∷ xs) ys = ap (λ l. f x ∷ l) (map-append f xs ys)
 
 columns_all : (number : ℕ) (columns : List ColumnPriv) → map printed (flat_map (columns_at item_tokens number) columns) ≡ map spaced (flat_map (columns_at item_text number) columns)
 columns_all number [] = refl

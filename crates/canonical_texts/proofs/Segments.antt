@@ -25,11 +25,11 @@ use Rattle.grant_lex.specs.Token.{IsOfSort}
 use Rattle.grant_lex.specs.declared.sorts.Kind.TheVariants.{Word, Quoted}
 use Rattle.hex.specs.Hex.{encode_lower, encode_with, lower_digits}
 use Rattle.mandatory_roles.proofs.Bytes.{class_from_word, is_byte}
+use Rattle.priv_items.specs.Canonical.{columns_at, dynamic_at, each_below, held_by, listed_by, member_if, or_usage, static_at}
+use Rattle.priv_items.specs.Escapes.{escaped}
 use Rattle.priv_sets.specs.DynamicNames.{dynamic_name, dynamic_names}
 use Rattle.priv_sets.specs.PlainNames.{plain_name, plain_names}
 use Rattle.priv_sets.specs.StaticSet.{holds}
-use Rattle.priv_items.specs.Canonical.{columns_at, dynamic_at, each_below, held_by, listed_by, member_if, or_usage, static_at}
-use Rattle.priv_items.specs.Escapes.{escaped}
 use Rattle.canonical_texts.specs.Quotes.{string_byte, string_inside, string_text}
 use Rattle.canonical_texts.specs.Tokens.{account_tokens, accounts_tokens, altered_tokens, attempts_tokens, column_tokens, columns_item_tokens, days_tokens, digits_token, item_tokens, list_tokens, locked_tokens, mark, name, new_tokens, opening, options_tokens, parts_of, password_tokens, privileges_tokens, renamed_tokens, same_tokens, spaced_name, string, target_tokens, tokens_if, word, words_of}
 use Rattle.canonical_texts.proofs.Chains.{IsChain, IsSegment, IsToken, follows_start, no_tokens, segment_append, segment_cons, segment_flat, segment_list, segment_mark}

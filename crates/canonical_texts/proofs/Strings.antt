@@ -7,7 +7,6 @@ use Rattle.mandatory_roles.proofs.Bytes.{is_byte, not_byte, other_byte}
 use Rattle.mandatory_roles.proofs.Written.{written_read}
 use Rattle.mandatory_roles.specs.Roles.{roles_in}
 use Rattle.mandatory_roles.specs.Text.{IsRole, roles_text}
-use Rattle.mandatory_roles.specs.declared.read.TheConstants.{ROLE_LIMIT}
 use Rattle.canonical_texts.specs.Quotes.{string_byte, string_inside, string_text}
 
 inside_end : inside_value 39 (39 ∷ []) ≡ []
@@ -43,5 +42,5 @@ inside_text (b ∷ bs) =
 pub string_read : (text : List ℕ) → value_of (string_text text) ≡ text
 string_read text = inside_text text
 
-pub mandatory_read : (roles : List AuthId) → AllByRecursion IsRole roles → length roles ≤ ROLE_LIMIT → roles_in (value_of (string_text (roles_text roles))) ≡ Some roles
+pub mandatory_read : (roles : List AuthId) → AllByRecursion IsRole roles → length roles ≤ 4096 → roles_in (value_of (string_text (roles_text roles))) ≡ Some roles
 mandatory_read roles each few = ap roles_in (string_read (roles_text roles)) ∙ written_read roles each few

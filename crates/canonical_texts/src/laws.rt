@@ -8,7 +8,6 @@ ghost use Rattle.grant_lex.specs.Token.{IsCut};
 ghost use Rattle.grant_lex.specs.Value.{value_of};
 ghost use Rattle.mandatory_roles.specs.Roles.{roles_in};
 ghost use Rattle.mandatory_roles.specs.Text.{IsRole, roles_text};
-ghost use Rattle.mandatory_roles.specs.declared.read.TheConstants.{ROLE_LIMIT};
 ghost use Rattle.canonical_texts.specs.Quotes.{string_text};
 ghost use Rattle.canonical_texts.specs.StatementTokens.{canonical_tokens};
 ghost use Rattle.canonical_texts.specs.Statements.{canonical_text};
@@ -24,6 +23,6 @@ pub fn canonical_texts_are_tokens()
 /// A string stands for the text that it is written from; so the list of mandatory roles is read back from its string.
 pub fn written_strings_are_read()
     ensures value { (text : List ℕ) → value_of (string_text text) ≡ text }
-    ensures mandatory { (roles : List AuthId) → AllByRecursion IsRole roles → length roles ≤ ROLE_LIMIT
+    ensures mandatory { (roles : List AuthId) → AllByRecursion IsRole roles → length roles ≤ 4096
         → roles_in (value_of (string_text (roles_text roles))) ≡ Some roles }
 {}

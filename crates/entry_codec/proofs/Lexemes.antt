@@ -1,15 +1,15 @@
 -- The tokens of a text that is written token by token stand for what the written tokens stand for.
-use Rattle.grant_words.specs.Lexemes.{printed_lexeme, printed_lexemes}
-use Rattle.canonical_texts.specs.Lexemes.{canonical_lexemes}
 use Rattle.std.proofs.Common.{◌≡◌, ◌+◌, ◌-◌, ℕ, List, [], ◌∷◌, ◌++◌, length, take, drop, append_assoc, length-append, refl, sym, ap, ◌∙◌, arith}
 use Rattle.std.proofs.Math.Seq.{drop-append-add, drop-append_seam, take-append_seam}
 use Rattle.std.specs.Prelude.{slice_range}
 use Rattle.acl_stmt.specs.declared.statement.Statement.{Statement}
 use Rattle.canonical_texts.proofs.TokenTexts.{tokens_text}
+use Rattle.canonical_texts.specs.Lexemes.{canonical_lexemes}
 use Rattle.canonical_texts.specs.StatementTokens.{canonical_tokens}
 use Rattle.canonical_texts.specs.Statements.{canonical_text}
 use Rattle.grant_lex.specs.Printed.{Printed, printed, tokens_of}
 use Rattle.grant_lex.specs.Value.{value_of}
+use Rattle.grant_words.specs.Lexemes.{printed_lexeme, printed_lexemes}
 use Rattle.grant_words.specs.Lexemes.{lexemes_of}
 use Rattle.grant_words.specs.declared.lexeme.Lexeme.{Lexeme}
 

@@ -1,5 +1,4 @@
 -- Statements are read back from their canonical texts.
-use Rattle.canonical_texts.specs.Lexemes.{canonical_lexemes}
 use Rattle.std.proofs.Common.{◌≡◌, ◌⊎◌, ℕ, IsTrue, IsUtf8, List, [], Some, None, Result, Ok, Err, IfOk, append-nil, inl, inr, refl, sym, ap, subst, ◌∙◌}
 use Rattle.std.specs.List.{AllByRecursion}
 use Rattle.acl_grammar.specs.Spelling.{spells}
@@ -10,6 +9,8 @@ use Rattle.acl_stmt.specs.Statements.{is_statement}
 use Rattle.acl_stmt.specs.declared.statement.Statement.{Statement}
 use Rattle.acl_stmt.specs.declared.statement.Statement.TheVariants.{SetPassword}
 use Rattle.canonical_texts.proofs.Printable.{canonical_cut}
+use Rattle.canonical_texts.specs.Lexemes.{canonical_lexemes}
+use Rattle.canonical_texts.specs.Rules.{account_keeps_rules}
 use Rattle.canonical_texts.specs.StatementTokens.{canonical_tokens}
 use Rattle.canonical_texts.specs.Statements.{canonical_text}
 use Rattle.grant_lex.specs.Printed.{tokens_of}
@@ -26,10 +27,9 @@ use Rattle.privilege_texts.proofs.Spelled.{all_front}
 use Rattle.privilege_texts.proofs.Statements.{read_back as privileges_read_back}
 use Rattle.privilege_texts.proofs.TokenValues.{tokens_are_text}
 use Rattle.privilege_texts.specs.Rules.{IsText}
-use Rattle.privilege_texts.specs.ReadBack.{IsReadBack as IsSpelledAgain}
+use Rattle.privilege_texts.specs.SpelledAgain.{IsSpelledAgain}
 use Rattle.user_statements.specs.Statements.{user_statement}
 use Rattle.user_texts.proofs.Statements.{canonical_read as users_read_back, completed_read}
-use Rattle.canonical_texts.specs.Rules.{account_keeps_rules}
 use Rattle.entry_codec.proofs.Cuts.{IsCutUp, meant_cut}
 use Rattle.entry_codec.proofs.Lexemes.{canonical_read}
 use Rattle.entry_codec.specs.ReadBack.{IsReadBack}

@@ -2,7 +2,7 @@
 use Rattle.std.proofs.Common.{◌≡◌, ℕ, ◌+◌, ◌-◌, ◌<◌, List, [], ◌∷◌, ◌++◌, length, get_or, take, drop, refl, sym, subst, ap, arith}
 use Rattle.std.proofs.lemmas.Slice.{between_to_end}
 use Rattle.grant_lex.specs.Class.{class_of}
-use Rattle.grant_lex.specs.Next.{BeginsWithout, IsOf, IsRun}
+use Rattle.grant_lex.specs.Next.{BeginsWithout, IsOf, IsLongestRun}
 use Rattle.grant_lex.specs.Token.{IsOfSort, IsQuoted, IsQuotedFront, StandsAt}
 use Rattle.grant_lex.specs.declared.class.Class.{Class}
 use Rattle.grant_lex.specs.declared.class.Class.TheVariants as classes
@@ -35,7 +35,7 @@ run_some class [] [] some first ends = omega arith
 run_some class [] (b ∷ rest) some first ends = absurd (ends first)
 run_some class (b ∷ front) rest some first ends = omega arith
 
-pub word_front : (bytes : List ℕ) (n : ℕ) → 0 < length bytes → class_of (get_or bytes 0 0) ≡ classes.Word → IsRun classes.Word bytes n → IsFront kinds.Word bytes n
+pub word_front : (bytes : List ℕ) (n : ℕ) → 0 < length bytes → class_of (get_or bytes 0 0) ≡ classes.Word → IsLongestRun classes.Word bytes n → IsFront kinds.Word bytes n
 word_front bytes n some first run =
     let whole_some = subst (λ (l : List ℕ). 0 < length l) run.whole some in
     let whole_first = subst (λ (l : List ℕ). class_of (get_or l 0 0) ≡ classes.Word) run.whole first in

@@ -5,7 +5,7 @@ use Rattle.std.proofs.Math.Seq.{drop-append_seam}
 use Rattle.std.proofs.lemmas.Grind.{flat_map-append}
 use Rattle.std.proofs.lemmas.List.{append-nil}
 use Rattle.grant_lex.specs.Class.{class_of}
-use Rattle.grant_lex.specs.Inside.{Goes, Closes, HasBadPair, StaysOpen, IsPiece, IsWithin, Opens, spelling}
+use Rattle.grant_lex.specs.Inside.{BeginsWithPiece, Closes, HasBadPair, StaysOpen, IsPiece, ArePieces, Opens, spelling}
 use Rattle.grant_lex.specs.Token.{IsQuotedFront, IsBadPair, IsUnclosed}
 use Rattle.grant_lex.specs.declared.class.Class.TheVariants.{Quote, Backquote}
 use Rattle.grant_lex.specs.declared.inside.Piece.{Piece}
@@ -18,10 +18,10 @@ seam bytes front rest n whole size = ap (λ k. drop k bytes) (sym size) ∙ ap (
 flat_push : (f : Piece → List ℕ) (ps : List Piece) (p : Piece) → flat_map f (ps ++ p ∷ []) ≡ flat_map f ps ++ f p
 flat_push f ps p = flat_map-append f ps (p ∷ []) ∙ ap (λ l. flat_map f ps ++ l) (append-nil (f p))
 
-pub within_start : (quote : ℕ) (bytes : List ℕ) → IsWithin quote bytes 0
+pub within_start : (quote : ℕ) (bytes : List ℕ) → ArePieces quote bytes 0
 within_start quote bytes = record { pieces = []; each = tt; whole = refl; size = refl }
 
-pub within_more : (quote : ℕ) (bytes : List ℕ) (n : ℕ) (p : Piece) → IsWithin quote bytes n → Goes quote (drop n bytes) p → IsWithin quote bytes (n + length (spelling quote p))
+pub within_more : (quote : ℕ) (bytes : List ℕ) (n : ℕ) (p : Piece) → ArePieces quote bytes n → BeginsWithPiece quote (drop n bytes) p → ArePieces quote bytes (n + length (spelling quote p))
 within_more quote bytes n p so_far goes =
     let inner : List ℕ = flat_map (spelling quote) so_far.pieces in
     let parts : bytes ≡ (inner ++ spelling quote p) ++ goes.rest =
@@ -36,10 +36,10 @@ within_more quote bytes n p so_far goes =
       size = ap length pushed ∙ sizes;
     }
 
-pub opens_within : (quote : ℕ) (bytes : List ℕ) (n : ℕ) → (so_far : IsWithin quote bytes n) → Opens quote so_far.pieces (quote ∷ bytes) (drop n bytes)
+pub opens_within : (quote : ℕ) (bytes : List ℕ) (n : ℕ) → (so_far : ArePieces quote bytes n) → Opens quote so_far.pieces (quote ∷ bytes) (drop n bytes)
 opens_within quote bytes n so_far = record { whole = ap (λ l. quote ∷ l) so_far.whole; each = so_far.each }
 
-pub closed_within : (quote : ℕ) (bytes : List ℕ) (n : ℕ) → IsWithin quote bytes n → (rest : List ℕ) → Closes quote (drop n bytes) rest → IsQuotedFront quote (quote ∷ bytes) (n + 2)
+pub closed_within : (quote : ℕ) (bytes : List ℕ) (n : ℕ) → ArePieces quote bytes n → (rest : List ℕ) → Closes quote (drop n bytes) rest → IsQuotedFront quote (quote ∷ bytes) (n + 2)
 closed_within quote bytes n so_far rest closes =
     let inner : List ℕ = flat_map (spelling quote) so_far.pieces in
     record {
@@ -56,7 +56,7 @@ closed_within quote bytes n so_far rest closes =
       };
     }
 
-pub bad_pair_within : (quote : ℕ) (bytes : List ℕ) (from n : ℕ) → (class_of quote ≡ Quote) ⊎ (class_of quote ≡ Backquote) → IsWithin quote bytes n → HasBadPair quote (drop n bytes) → IsBadPair from (quote ∷ bytes) (from + 1 + n)
+pub bad_pair_within : (quote : ℕ) (bytes : List ℕ) (from n : ℕ) → (class_of quote ≡ Quote) ⊎ (class_of quote ≡ Backquote) → ArePieces quote bytes n → HasBadPair quote (drop n bytes) → IsBadPair from (quote ∷ bytes) (from + 1 + n)
 bad_pair_within quote bytes from n sort so_far bad = record {
   quote = quote;
   sort = string_quote quote sort bad.escapes;
@@ -67,7 +67,7 @@ bad_pair_within quote bytes from n sort so_far bad = record {
   place = ap (λ k. from + 1 + k) (sym so_far.size);
 }
 
-pub open_within : (quote : ℕ) (bytes : List ℕ) (from n : ℕ) → (class_of quote ≡ Quote) ⊎ (class_of quote ≡ Backquote) → IsWithin quote bytes n → StaysOpen quote (drop n bytes) → IsUnclosed from (quote ∷ bytes) from
+pub open_within : (quote : ℕ) (bytes : List ℕ) (from n : ℕ) → (class_of quote ≡ Quote) ⊎ (class_of quote ≡ Backquote) → ArePieces quote bytes n → StaysOpen quote (drop n bytes) → IsUnclosed from (quote ∷ bytes) from
 open_within quote bytes from n sort so_far open_end = record {
   quote = quote;
   sort = sort;
@@ -78,6 +78,6 @@ open_within quote bytes from n sort so_far open_end = record {
   place = refl;
 }
 
-pub within_le : (quote : ℕ) (bytes : List ℕ) (n : ℕ) → IsWithin quote bytes n → n ≤ length bytes
+pub within_le : (quote : ℕ) (bytes : List ℕ) (n : ℕ) → ArePieces quote bytes n → n ≤ length bytes
 within_le quote bytes n so_far =
     omega (arith, simp length-append at (ap length so_far.whole), so_far.size)

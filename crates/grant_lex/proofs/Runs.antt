@@ -2,7 +2,7 @@
 use Rattle.std.proofs.Common.{ℕ, zero, suc, ◌+◌, ◌<◌, ◌≤◌, List, [], ◌∷◌, ◌++◌, length, get_or, take, drop, sym, subst, arith, take-append-drop, length-take-le}
 use Rattle.std.specs.List.{AllByRecursion}
 use Rattle.std.proofs.lemmas.List.{take_more}
-use Rattle.grant_lex.specs.Next.{BeginsWithout, IsOf, IsRun}
+use Rattle.grant_lex.specs.Next.{BeginsWithout, IsOf, IsLongestRun}
 use Rattle.grant_lex.specs.declared.class.Class.{Class}
 
 pub all_append : {X : Type 0} (P : X → Type 0) (xs ys : List X) → AllByRecursion P xs → AllByRecursion P ys → AllByRecursion P (xs ++ ys)
@@ -19,7 +19,7 @@ without_drop P [] (suc i) not_here = tt
 without_drop P (x ∷ xs) zero not_here = not_here (omega arith)
 without_drop P (x ∷ xs) (suc i) not_here = without_drop P xs i (λ lt. not_here (omega arith))
 
-pub run_at : (class : Class) (xs : List ℕ) (n : ℕ) → n ≤ length xs → AllByRecursion (IsOf class) (take n xs) → (n < length xs → IsOf class (get_or xs n 0) → ⊥) → IsRun class xs n
+pub run_at : (class : Class) (xs : List ℕ) (n : ℕ) → n ≤ length xs → AllByRecursion (IsOf class) (take n xs) → (n < length xs → IsOf class (get_or xs n 0) → ⊥) → IsLongestRun class xs n
 run_at class xs n within front stops = record {
   front = take n xs;
   rest = drop n xs;

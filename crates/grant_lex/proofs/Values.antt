@@ -7,9 +7,9 @@ use Rattle.std.proofs.lemmas.Bool.Decides.{nat_tests}
 use Rattle.std.proofs.lemmas.Str.{IsCharBoundary-before_ascii, IsUtf8-append, IsUtf8-take}
 use Rattle.std.proofs.lemmas.Slice.{between_to_end}
 use Rattle.grant_lex.specs.Class.{class_of, is_quote}
-use Rattle.grant_lex.specs.Inside.{Goes, HasEscapes, IsNext, IsPiece, is_escaped, keeps_backslash, meaning, spelling}
+use Rattle.grant_lex.specs.Inside.{BeginsWithPiece, HasEscapes, IsNextInside, IsPiece, is_escaped, keeps_backslash, meaning, spelling}
 use Rattle.grant_lex.specs.Next.{BeginsWithout}
-use Rattle.grant_lex.specs.Value.{StandsFor, inside_value, value_of}
+use Rattle.grant_lex.specs.Value.{StandsForValue, inside_value, value_of}
 use Rattle.grant_lex.specs.declared.class.Class.TheVariants.{Quote, Backquote}
 use Rattle.grant_lex.specs.declared.inside.Inside.{Inside}
 use Rattle.grant_lex.specs.declared.inside.Inside.TheVariants.{Next, Closing, BadPair, Open}
@@ -70,7 +70,7 @@ nothing_at : (quote : ℕ) → inside_value quote [] ≡ []
 unfolding inside_value
 nothing_at quote = refl
 
-pub stop_value : (quote : ℕ) (bytes : List ℕ) (step : Inside) → quote ≢ 92 → IsNext quote bytes step → ((p : Piece) → step ≡ Next p → ⊥) → inside_value quote bytes ≡ []
+pub stop_value : (quote : ℕ) (bytes : List ℕ) (step : Inside) → quote ≢ 92 → IsNextInside quote bytes step → ((p : Piece) → step ≡ Next p → ⊥) → inside_value quote bytes ≡ []
 stop_value quote bytes (Next p) differ next stops = absurd (stops p refl)
 stop_value quote bytes Closing differ (rest, closes) stops = ap (inside_value quote) closes.whole ∙ closing_at quote rest closes.ends
 stop_value quote bytes BadPair differ bad stops = ap (inside_value quote) bad.whole ∙ bad_at quote bad.second bad.rest differ bad.escapes bad.bad
@@ -86,7 +86,7 @@ inside_pieces quote (p ∷ ps) rest differ each =
     ∙ sym (append_assoc (meaning quote p) (flat_map (meaning quote) ps) (inside_value quote rest))
 
 -- what a token stands for is its value
-pub stands_for_value : (quote : ℕ) (inside value : List ℕ) → StandsFor (quote ∷ inside) value → inside_value quote inside ≡ value
+pub stands_for_value : (quote : ℕ) (inside value : List ℕ) → StandsForValue (quote ∷ inside) value → inside_value quote inside ≡ value
 stands_for_value quote inside value stands =
     let differ = not_backslash stands.quote stands.sort in
     let same : quote ≡ stands.quote = cc (stands.opens.whole) in
@@ -119,7 +119,7 @@ piece_text quote value (Plain b) rest ascii utf8 = subst IsUtf8 (sym (append_ass
 piece_text quote value Doubled rest ascii utf8 = subst IsUtf8 (sym (append_assoc value (quote ∷ []) rest)) (utf8_without_ascii value quote (quote ∷ rest) ascii utf8)
 piece_text quote value (Escaped b) rest ascii utf8 = escaped_text (keeps_backslash b) value b rest utf8
 
-pub stop_text : (quote : ℕ) (value bytes : List ℕ) (step : Inside) → quote < 128 → IsNext quote bytes step → ((p : Piece) → step ≡ Next p → ⊥) → IsUtf8 (value ++ bytes) → IsUtf8 value
+pub stop_text : (quote : ℕ) (value bytes : List ℕ) (step : Inside) → quote < 128 → IsNextInside quote bytes step → ((p : Piece) → step ≡ Next p → ⊥) → IsUtf8 (value ++ bytes) → IsUtf8 value
 stop_text quote value bytes (Next p) ascii next stops utf8 = absurd (stops p refl)
 stop_text quote value bytes Closing ascii (rest, closes) stops utf8 = utf8_before_ascii value quote rest ascii (subst (λ l. IsUtf8 (value ++ l)) closes.whole utf8)
 stop_text quote value bytes BadPair ascii bad stops utf8 = utf8_before_ascii value 92 (bad.second ∷ bad.rest) (lit< tt) (subst (λ l. IsUtf8 (value ++ l)) bad.whole utf8)
@@ -139,7 +139,7 @@ pub record IsValueSoFar (quote : ℕ) (inside : List ℕ) (n : ℕ) (value : Lis
 pub value_start : (quote : ℕ) (inside : List ℕ) → IsUtf8 inside → IsValueSoFar quote inside 0 []
 value_start quote inside utf8 = record { within = omega arith; value_is = refl; text = utf8 }
 
-pub value_more : (quote : ℕ) (inside : List ℕ) (n : ℕ) (value : List ℕ) (p : Piece) → quote ≢ 92 → quote < 128 → IsValueSoFar quote inside n value → Goes quote (drop n inside) p → IsValueSoFar quote inside (n + length (spelling quote p)) (value ++ meaning quote p)
+pub value_more : (quote : ℕ) (inside : List ℕ) (n : ℕ) (value : List ℕ) (p : Piece) → quote ≢ 92 → quote < 128 → IsValueSoFar quote inside n value → BeginsWithPiece quote (drop n inside) p → IsValueSoFar quote inside (n + length (spelling quote p)) (value ++ meaning quote p)
 value_more quote inside n value p differ ascii so_far goes =
     let parts : inside ≡ (take n inside ++ spelling quote p) ++ goes.rest =
     sym (take-append-drop n inside) ∙ ap (λ l. take n inside ++ l) goes.whole ∙ sym (append_assoc (take n inside) (spelling quote p) goes.rest) in
@@ -155,14 +155,14 @@ value_more quote inside n value p differ ascii so_far goes =
       text = subst (λ l. IsUtf8 ((value ++ meaning quote p) ++ l)) (sym left) (piece_text quote value p goes.rest ascii (subst (λ l. IsUtf8 (value ++ l)) goes.whole so_far.text));
     }
 
-pub value_end : (quote : ℕ) (inside : List ℕ) (n : ℕ) (value : List ℕ) (step : Inside) → quote ≢ 92 → IsValueSoFar quote inside n value → IsNext quote (drop n inside) step → ((p : Piece) → step ≡ Next p → ⊥) → value ≡ inside_value quote inside
+pub value_end : (quote : ℕ) (inside : List ℕ) (n : ℕ) (value : List ℕ) (step : Inside) → quote ≢ 92 → IsValueSoFar quote inside n value → IsNextInside quote (drop n inside) step → ((p : Piece) → step ≡ Next p → ⊥) → value ≡ inside_value quote inside
 value_end quote inside n value step differ so_far next stops =
     sym (append-nil value) ∙ ap (λ l. value ++ l) (sym (stop_value quote (drop n inside) step differ next stops)) ∙ so_far.value_is
 
 pub quote_byte : (b : ℕ) → is_quote b ≡ true → b < 128
 quote_byte b e = grind (arith, nat_tests)
 
-pub value_meant : (text value : List ℕ) → StandsFor text value → value_of text ≡ value
+pub value_meant : (text value : List ℕ) → StandsForValue text value → value_of text ≡ value
 value_meant [] value stands = absurd (cc (stands.opens.whole))
 value_meant (b ∷ inside) value stands =
     let same : b ≡ stands.quote = cc (stands.opens.whole) in

@@ -57,20 +57,20 @@ pub record HasBadPair (quote : ℕ) (bytes : List ℕ) : Type 0 where
 abbrev pub StaysOpen : ℕ → List ℕ → Type 0
 StaysOpen quote bytes = (bytes ≡ []) ⊎ (HasEscapes quote × (bytes ≡ 92 ∷ []))
 
-pub record Goes (quote : ℕ) (bytes : List ℕ) (piece : Piece) : Type 0 where
+pub record BeginsWithPiece (quote : ℕ) (bytes : List ℕ) (piece : Piece) : Type 0 where
   pub rest : List ℕ
   pub whole : bytes ≡ spelling quote piece ++ rest
   pub allowed : IsPiece quote piece
 
 -- what comes next between these quotes
-abbrev pub IsNext : ℕ → List ℕ → Inside → Type 0
-IsNext quote bytes (Next piece) = Goes quote bytes piece
-IsNext quote bytes Closing = (rest : List ℕ) × Closes quote bytes rest
-IsNext quote bytes BadPair = HasBadPair quote bytes
-IsNext quote bytes Open = StaysOpen quote bytes
+abbrev pub IsNextInside : ℕ → List ℕ → Inside → Type 0
+IsNextInside quote bytes (Next piece) = BeginsWithPiece quote bytes piece
+IsNextInside quote bytes Closing = (rest : List ℕ) × Closes quote bytes rest
+IsNextInside quote bytes BadPair = HasBadPair quote bytes
+IsNextInside quote bytes Open = StaysOpen quote bytes
 
 -- the first n bytes are pieces
-pub record IsWithin (quote : ℕ) (bytes : List ℕ) (n : ℕ) : Type 0 where
+pub record ArePieces (quote : ℕ) (bytes : List ℕ) (n : ℕ) : Type 0 where
   pub pieces : List Piece
   pub each : AllByRecursion (IsPiece quote) pieces
   pub whole : bytes ≡ flat_map (spelling quote) pieces ++ drop n bytes

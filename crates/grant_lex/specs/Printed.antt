@@ -1,9 +1,8 @@
 -- Texts that are written token by token.
 use Rattle.std.specs.Prelude.{◌≡◌, ◌++◌, ◌+◌, ℕ, List, [], ◌∷◌, length}
 use Rattle.std.specs.List.{AllByRecursion}
-use Rattle.grant_lex.specs.Next.{BeginsWithout, IsOf}
+use Rattle.grant_lex.specs.Next.{BeginsWithout, IsBlank, IsOf}
 use Rattle.grant_lex.specs.Token.{IsOfSort}
-use Rattle.grant_lex.specs.declared.class.Class.TheVariants.{Blank}
 use Rattle.grant_lex.specs.declared.class.Class.TheVariants as classes
 use Rattle.grant_lex.specs.declared.sorts.Kind.{Kind}
 use Rattle.grant_lex.specs.declared.sorts.Kind.TheVariants.{Word, Quoted, Backquoted, Mark}
@@ -30,7 +29,7 @@ GoesOn (Mark _) text b = ⊥
 abbrev pub ArePrinted : List Printed → Type 0
 ArePrinted [] = Unit {0}
 ArePrinted (p ∷ ps) =
-    AllByRecursion (IsOf Blank) p.blanks × IsOfSort p.kind p.text [] × BeginsWithout (GoesOn p.kind p.text) (printed ps)
+    AllByRecursion IsBlank p.blanks × IsOfSort p.kind p.text [] × BeginsWithout (GoesOn p.kind p.text) (printed ps)
     × ArePrinted ps
 
 abbrev pub tokens_of : ℕ → List Printed → List Token

@@ -3,10 +3,10 @@ use Rattle.std.specs.Prelude.{◌≡◌, ◌⊎◌, ◌++◌, ◌+◌, ◌<◌, 
 use Rattle.std.specs.List.{flat_map, AllByRecursion}
 use Rattle.std.specs.Str.{IsCharBoundary}
 use Rattle.grant_lex.specs.Class.{class_of}
-use Rattle.grant_lex.specs.Next.{BeginsWithout, IsOf}
+use Rattle.grant_lex.specs.Next.{BeginsWithout, IsBlank, IsOf}
 use Rattle.grant_lex.specs.Inside.{Opens, HasBadPair, StaysOpen, spelling}
 use Rattle.grant_lex.specs.declared.class.Class.{Class}
-use Rattle.grant_lex.specs.declared.class.Class.TheVariants.{Blank, Mark, Quote, Backquote, Other}
+use Rattle.grant_lex.specs.declared.class.Class.TheVariants.{Mark, Quote, Backquote, Other}
 use Rattle.grant_lex.specs.declared.class.Class.TheVariants as classes
 use Rattle.grant_lex.specs.declared.inside.Piece.{Piece}
 use Rattle.grant_lex.specs.declared.refusal.LexRefusal.{LexRefusal}
@@ -84,7 +84,7 @@ pub record PastBlanks (P : ℕ → List ℕ → Type 0) (at : ℕ) (bytes : List
   pub blanks : List ℕ
   pub rest : List ℕ
   pub whole : bytes ≡ blanks ++ rest
-  pub each : AllByRecursion (IsOf Blank) blanks
+  pub each : AllByRecursion IsBlank blanks
   pub next : P (at + length blanks) rest
 
 -- blanks, then the token, then the rest
@@ -94,7 +94,7 @@ Continues at bytes token rest = PastBlanks (λ from text. StandsAt from token te
 -- the bytes, the first of which is at this offset, are these tokens with blanks before, between and behind them;
 -- or they are up to a fault, which stands where the next token would
 abbrev pub Reads : ℕ → List ℕ → List Token → Option LexRefusal → Type 0
-Reads at bytes [] None = AllByRecursion (IsOf Blank) bytes
+Reads at bytes [] None = AllByRecursion IsBlank bytes
 Reads at bytes [] (Some fault) = PastBlanks (λ from rest. Fails from rest fault) at bytes
 Reads at bytes (t ∷ ts) end =
     (rest : List ℕ) × Continues at bytes t rest × Reads t.to rest ts end
@@ -108,9 +108,9 @@ abbrev pub HasFault : List ℕ → LexRefusal → Type 0
 HasFault text fault = (before : List Token) × Reads 0 text before (Some fault)
 
 -- the next token, or none where nothing but blanks is left
-abbrev pub IsStep : ℕ → List ℕ → Option Token → Type 0
-IsStep at bytes None = Reads at bytes [] None
-IsStep at bytes (Some token) = (rest : List ℕ) × Continues at bytes token rest
+abbrev pub IsNextToken : ℕ → List ℕ → Option Token → Type 0
+IsNextToken at bytes None = Reads at bytes [] None
+IsNextToken at bytes (Some token) = (rest : List ℕ) × Continues at bytes token rest
 
 -- the first n bytes are a token between these quotes
 pub record IsQuotedFront (quote : ℕ) (bytes : List ℕ) (n : ℕ) : Type 0 where
@@ -146,6 +146,6 @@ pub record IsSpan (text : List ℕ) (token : Token) : Type 0 where
 
 -- from this offset on the text is these spans in order, with blanks before, between and behind them
 abbrev pub AreSpans : List ℕ → ℕ → List Token → Type 0
-AreSpans text at [] = AllByRecursion (IsOf Blank) (drop at text)
+AreSpans text at [] = AllByRecursion IsBlank (drop at text)
 AreSpans text at (t ∷ ts) =
-    (at ≤ t.from) × AllByRecursion (IsOf Blank) (slice_range text at t.from) × IsSpan text t × AreSpans text t.to ts
+    (at ≤ t.from) × AllByRecursion IsBlank (slice_range text at t.from) × IsSpan text t × AreSpans text t.to ts

@@ -7,7 +7,7 @@ use Rattle.grant_lex.specs.declared.class.Class.TheVariants.{Quote, Backquote}
 use Rattle.grant_lex.specs.declared.inside.Piece.{Piece}
 
 -- a string or a name in backquotes stands for what its pieces mean
-pub record StandsFor (text value : List ℕ) : Type 0 where
+pub record StandsForValue (text value : List ℕ) : Type 0 where
   pub quote : ℕ
   pub sort : (class_of quote ≡ Quote) ⊎ (class_of quote ≡ Backquote)
   pub pieces : List Piece
@@ -23,7 +23,7 @@ inside_value quote (b ∷ c ∷ rest) =
     else (if not (quote == 96) && b == 92 then (if is_escaped c then (if keeps_backslash c then 92 ∷ c ∷ [] else c ∷ []) ++ inside_value quote rest else [])
     else b ∷ inside_value quote (c ∷ rest))
 
--- as `StandsFor` where the text begins with a quote; any other text stands for itself
+-- as `StandsForValue` where the text begins with a quote; any other text stands for itself
 abbrev pub value_of : List ℕ → List ℕ
 value_of [] = []
 value_of (b ∷ rest) = if is_quote b then inside_value b rest else b ∷ rest

@@ -1,6 +1,6 @@
 ghost use Rattle.std.specs.Prelude.{◌≡◌};
 ghost use Rattle.grant_lex.specs.Class.{class_of, is_blank, is_word_byte};
-ghost use Rattle.grant_lex.specs.Next.{IsRun};
+ghost use Rattle.grant_lex.specs.Next.{IsLongestRun};
 
 /// What a byte may be outside quotes.
 #[derive(Clone, Copy, Debug, PartialEq, Eq)]
@@ -42,7 +42,7 @@ pub(crate) fn class_of(byte: u8) -> Class
 
 /// How many bytes at the front are of the class.
 pub(crate) fn run_length(bytes: &[u8], class: Class) -> usize
-    ensures { IsRun class bytes.now result }
+    ensures { IsLongestRun class bytes.now result }
 {
     let mut length = 0;
     while length < bytes.len() && class_of(bytes[length]) == class {

@@ -1,6 +1,6 @@
 ghost use Rattle.std.specs.Prelude.{◌≡◌, ◌+◌, ◌<◌, ◌≤◌, ◌^◌, ℕ, List, [], Some, length, All, IfOk, IfErr};
 ghost use Rattle.grant_lex.specs.Next.{BeginsWithout, IsOf};
-ghost use Rattle.grant_lex.specs.Token.{AnswersTokens, AreSpans, Fails, HasFault, IsCut, IsFaultOf, IsSpan, IsStep, Reads, AnswersFault, StandsAt};
+ghost use Rattle.grant_lex.specs.Token.{AnswersTokens, AreSpans, Fails, HasFault, IsCut, IsFaultOf, IsSpan, IsNextToken, Reads, AnswersFault, StandsAt};
 ghost use Rattle.grant_lex.specs.declared.class.Class.TheVariants.{Blank};
 ghost use Rattle.grant_lex.specs.declared.refusal.LexRefusal.{LexRefusal};
 ghost use Rattle.grant_lex.specs.declared.sorts.Token.{Token};
@@ -35,7 +35,7 @@ fn token_at(bytes: &[u8], from: u32) -> Result<Token, LexRefusal>
 /// The first token of `bytes`, the first of which stands at `at`; none where they are blanks alone.
 fn next_token(bytes: &[u8], at: u32) -> Result<Option<Token>, LexRefusal>
     requires { at + length bytes.now < 2 ^ 32 }
-    ensures ok { IfOk result (λ next. IsStep at bytes.now next) }
+    ensures ok { IfOk result (λ next. IsNextToken at bytes.now next) }
     ensures err { IfErr result (λ fault. Reads at bytes.now [] (Some fault)) }
 {
     let blanks = run_length(bytes, Class::Blank);

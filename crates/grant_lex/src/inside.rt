@@ -1,6 +1,6 @@
 ghost use Rattle.std.specs.Prelude.{◌≡◌, ◌⊎◌, ◌+◌, ◌<◌, ◌^◌, ℕ, ◌∷◌, length, IfOk, IfErr};
 ghost use Rattle.grant_lex.specs.Class.{class_of};
-ghost use Rattle.grant_lex.specs.Inside.{IsNext, is_escaped, spelling};
+ghost use Rattle.grant_lex.specs.Inside.{IsNextInside, is_escaped, spelling};
 ghost use Rattle.grant_lex.specs.Token.{Fails, IsQuotedFront};
 ghost use Rattle.grant_lex.specs.declared.class.Class.TheVariants.{Quote, Backquote};
 
@@ -45,7 +45,7 @@ fn is_escaped(byte: u8) -> bool
 
 /// What `bytes` begin with, where they stand behind an opening `quote`.
 pub(crate) fn next_inside(quote: u8, bytes: &[u8]) -> Inside
-    ensures { IsNext quote bytes.now result }
+    ensures { IsNextInside quote bytes.now result }
 {
     match bytes {
         [] => Inside::Open,

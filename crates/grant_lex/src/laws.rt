@@ -1,7 +1,7 @@
 ghost use Rattle.std.specs.Prelude.{◌≡◌, ℕ, List};
 ghost use Rattle.grant_lex.specs.Printed.{ArePrinted, Printed, printed, tokens_of};
 ghost use Rattle.grant_lex.specs.Token.{HasFault, IsCut};
-ghost use Rattle.grant_lex.specs.Value.{StandsFor, value_of};
+ghost use Rattle.grant_lex.specs.Value.{StandsForValue, value_of};
 ghost use Rattle.grant_lex.specs.declared.refusal.LexRefusal.{LexRefusal};
 ghost use Rattle.grant_lex.specs.declared.sorts.Token.{Token};
 
@@ -14,7 +14,7 @@ pub fn texts_have_one_reading()
 
 /// What a string or a name in backquotes stands for is one value, and `value_of` gives it.
 pub fn values_are_meant()
-    ensures { (text value : List ℕ) → StandsFor text value → value_of text ≡ value }
+    ensures { (text value : List ℕ) → StandsForValue text value → value_of text ≡ value }
 {}
 
 /// A text that is written token by token, with blanks where one would go on with the next, is cut into just these.

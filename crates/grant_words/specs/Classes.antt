@@ -1,5 +1,6 @@
 -- Classes of tokens: what may stand at one place of a statement.
-use Rattle.std.specs.Prelude.{ℕ, Bool, true, false, ◌&&◌, ◌==◌, not, List, [], ◌∷◌, Option, None}
+use Rattle.std.specs.Prelude.{ℕ, Bool, true, false, ◌&&◌, ◌==◌, not, is_none, List, [], ◌∷◌}
+pub use Rattle.std.specs.Prelude.{is_none as no_fault}
 use Rattle.std.specs.List.{list_any}
 use Rattle.std.specs.Str.{str_eq_ignore_ascii_case, str_to_ascii_lowercase}
 use Rattle.acl_names.specs.Name.{ident_fault}
@@ -35,12 +36,8 @@ pub data Class : Type 0 where
 abbrev pub word : List ℕ → Class
 word text = keyword (text ∷ [])
 
-abbrev pub no_fault : {A : Type 0} → Option A → Bool
-no_fault None = true
-no_fault _ = false
-
 abbrev pub is_identifier : List ℕ → Bool
-is_identifier text = no_fault (ident_fault 64 text)
+is_identifier text = is_none (ident_fault 64 text)
 
 abbrev pub is_one_of : List (List ℕ) → List ℕ → Bool
 is_one_of words text = list_any (λ word. str_eq_ignore_ascii_case word text) words

@@ -1,10 +1,11 @@
 -- Names of accounts and of what privileges are held on, as they stand in statements.
-use Rattle.std.specs.Prelude.{ℕ, Bool, true, false, ◌&&◌, List, [], ◌∷◌, Option, Some, None, codes}
+use Rattle.std.specs.Prelude.{ℕ, Bool, true, false, ◌&&◌, is_none, List, [], ◌∷◌, codes}
+pub use Rattle.std.specs.Prelude.{is_some}
 use Rattle.std.specs.Str.{str_to_ascii_lowercase}
 use Rattle.account_match.specs.Form.{form_of}
 use Rattle.acl_names.specs.Name.{name_fault}
 use Rattle.acl_names.specs.declared.auth.AuthId.{AuthId}
-use Rattle.grant_words.specs.Classes.{Class, no_fault}
+use Rattle.grant_words.specs.Classes.{Class}
 use Rattle.grant_words.specs.Classes.Class.{mark, identifier, valued}
 use Rattle.grant_words.specs.Classes.Sort.{name, any_name}
 use Rattle.grant_words.specs.Syntax.{Syntax}
@@ -14,7 +15,7 @@ abbrev pub same : List ℕ → List ℕ
 same text = text
 
 abbrev pub is_user : List ℕ → Bool
-is_user text = no_fault (name_fault 32 text)
+is_user text = is_none (name_fault 32 text)
 
 abbrev pub is_some_text : List ℕ → Bool
 is_some_text [] = false
@@ -24,13 +25,9 @@ is_some_text (byte ∷ rest) = true
 abbrev pub is_role_user : List ℕ → Bool
 is_role_user text = is_some_text text && is_user text
 
-abbrev pub is_some : {A : Type 0} → Option A → Bool
-is_some None = false
-is_some (Some _) = true
-
 -- a host of at most 255 characters, with an address and a mask where it has a `/`
 abbrev pub is_host : List ℕ → Bool
-is_host text = no_fault (name_fault 255 text) && is_some (form_of (str_to_ascii_lowercase text))
+is_host text = is_none (name_fault 255 text) && is_some (form_of (str_to_ascii_lowercase text))
 
 abbrev pub user_class : Class
 user_class = valued name is_user (codes "u")

@@ -8,7 +8,7 @@ use Rattle.acl_names.specs.Name.{name_fault}
 use Rattle.acl_names.specs.declared.auth.AuthId.{AuthId}
 use Rattle.grant_lex.specs.Value.{value_of}
 use Rattle.grant_lex.specs.Class.{is_blank}
-use Rattle.mandatory_roles.specs.Cutting.{Written, behind, host_at, host_behind, name_at, past_name, with_host, written_at}
+use Rattle.mandatory_roles.specs.Cutting.{Written, past_mark, host_at, host_behind, name_at, past_name, with_host, written_at}
 use Rattle.mandatory_roles.specs.Roles.{host_of, role_from, role_of, user_of}
 use Rattle.mandatory_roles.specs.Runs.{is_host_byte, past_blanks}
 use Rattle.mandatory_roles.specs.Spelling.{AreBlanks, SpellsAccount, SpellsHost, SpellsName, SpellsPadded, SpellsRole}
@@ -38,7 +38,7 @@ blank_host b e = grind (arith, nat_tests)
 skip : (blanks tail : List ℕ) → AreBlanks blanks → StopsAt is_blank tail → past_blanks (blanks ++ tail) ≡ tail
 skip blanks tail each stops = past_exact is_blank blanks tail each stops
 
-no_at : (tail : List ℕ) → IsEnd tail → behind 64 tail ≡ None
+no_at : (tail : List ℕ) → IsEnd tail → past_mark 64 tail ≡ None
 no_at [] end = refl
 no_at (b ∷ bs) end = ap (λ k. cond (eqb k 64) (Some bs) None) end
 
@@ -64,7 +64,7 @@ alone before name user behind' tail blanks others named end =
       is =
           first_step before (name ++ (behind' ++ tail)) blanks (name_begins name user (behind' ++ tail) named)
           ∙ ap (option_and_then past_name) (name_exact name user (behind' ++ tail) named after)
-          ∙ ap (λ l. host_behind name l (behind 64 l)) left
+          ∙ ap (λ l. host_behind name l (past_mark 64 l)) left
           ∙ ap (host_behind name tail) (no_at tail end);
       user_is = name_value name user named;
       host_is = refl;
@@ -89,7 +89,7 @@ with_place before name user first second place host padding tail blanks firsts s
       is =
           first_step before (name ++ (first ++ rest)) blanks (name_begins name user (first ++ rest) named)
           ∙ ap (option_and_then past_name) (name_exact name user (first ++ rest) named after)
-          ∙ ap (λ l. host_behind name l (behind 64 l)) left
+          ∙ ap (λ l. host_behind name l (past_mark 64 l)) left
           ∙ ap (λ l. with_host name (host_at l)) (skip second (place ++ (padding ++ tail)) seconds (host_begins place host (padding ++ tail) placed))
           ∙ ap (with_host name) (host_exact place host (padding ++ tail) placed behind_host)
           ∙ ap (λ l. Some (let w : Written = record { name = name; host = place; rest = l } in w)) last;

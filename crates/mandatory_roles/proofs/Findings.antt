@@ -1,5 +1,5 @@
 -- What is found at the front of a text is a role with its blanks.
-use Rattle.std.proofs.Common.{◌≡◌, ◌≢◌, ℕ, Bool, true, false, cond, eqb, not, List, [], ◌∷◌, ◌++◌, Option, Some, None, option_and_then, is_none, is_some, refl, sym, subst, ap, ◌∙◌, append_assoc, inl, inr}
+use Rattle.std.proofs.Common.{◌≡◌, ◌≢◌, ℕ, Bool, true, false, cond, eqb, List, [], ◌∷◌, ◌++◌, Option, Some, None, option_and_then, is_none, is_some, refl, sym, subst, ap, ◌∙◌, append_assoc, inl, inr}
 use Rattle.std.specs.Cmp.{first_so, second_so}
 use Rattle.std.specs.Prelude.{codes}
 use Rattle.std.specs.Str.{str_to_ascii_lowercase}
@@ -9,8 +9,9 @@ use Rattle.acl_names.specs.declared.auth.AuthId.{AuthId}
 use Rattle.acl_names.specs.declared.refusal.NameRefusal.{NameRefusal}
 use Rattle.grant_lex.specs.Value.{value_of}
 use Rattle.grant_lex.specs.Class.{is_blank}
-use Rattle.mandatory_roles.specs.Cutting.{Cut, Written, behind, host_at, host_behind, is_empty, name_at, past_name, with_host, written_at}
-use Rattle.mandatory_roles.specs.Roles.{is_role_host, is_role_user, role_from, role_of}
+use Rattle.grant_words.specs.Names.{is_host, is_role_user, is_some_text}
+use Rattle.mandatory_roles.specs.Cutting.{Cut, Written, past_mark, host_at, host_behind, name_at, past_name, with_host, written_at}
+use Rattle.mandatory_roles.specs.Roles.{role_from, role_of}
 use Rattle.mandatory_roles.specs.Runs.{past_blanks, run_of}
 use Rattle.mandatory_roles.specs.Spelling.{AreBlanks, SpellsAccount, SpellsHost, SpellsName, SpellsRole}
 use Rattle.mandatory_roles.proofs.Accounts.{both_parts}
@@ -71,7 +72,7 @@ module _ (text before name first : List ℕ) (blanks : AreBlanks before) (firsts
       place_found text before name first second blanks firsts (run_each is_blank bs) named (past_blanks bs) (host_at (past_blanks bs)) parts (host_found (past_blanks bs))
   at_test b bs false e whole = name_alone text before name first (b ∷ bs) whole blanks firsts named
 
-  behind_found : (rest : List ℕ) → text ≡ before ++ (name ++ (first ++ rest)) → IsWritten text (host_behind name rest (behind 64 rest))
+  behind_found : (rest : List ℕ) → text ≡ before ++ (name ++ (first ++ rest)) → IsWritten text (host_behind name rest (past_mark 64 rest))
   behind_found [] whole = name_alone text before name first [] whole blanks firsts named
   behind_found (b ∷ bs) whole = at_test b bs (eqb b 64) refl whole
 
@@ -96,24 +97,24 @@ record KeepsRules (user host : List ℕ) (role : AuthId) : Type 0 where
   host_rules : name_fault 255 host ≡ None
   comparable : is_some (form_of (str_to_ascii_lowercase host)) ≡ true
 
-no_fault : (o : Option NameRefusal) → is_none o ≡ true → o ≡ None
-no_fault None e = refl
-no_fault (Some fault) e = cc
+none_from : (o : Option NameRefusal) → is_none o ≡ true → o ≡ None
+none_from None e = refl
+none_from (Some fault) e = cc
 
-not_empty : (text : List ℕ) → not (is_empty text) ≡ true → text ≢ []
+not_empty : (text : List ℕ) → is_some_text text ≡ true → text ≢ []
 not_empty [] e = λ same. cc
 not_empty (b ∷ bs) e = λ same. cc
 
-rules_test : (user host : List ℕ) (role : AuthId) (s t : Bool) → is_role_user user ≡ s → is_role_host host ≡ t → role_from (cond s (Some user) None) (cond t (Some (str_to_ascii_lowercase host)) None) ≡ Some role → KeepsRules user host role
+rules_test : (user host : List ℕ) (role : AuthId) (s t : Bool) → is_role_user user ≡ s → is_host host ≡ t → role_from (cond s (Some user) None) (cond t (Some (str_to_ascii_lowercase host)) None) ≡ Some role → KeepsRules user host role
 rules_test user host role true true e f is =
     let made : AuthId = record { user = user; host = str_to_ascii_lowercase host } in
     let same : made ≡ role = cc in
     record {
       user_is = sym (ap (λ r. r.user) same);
       host_is = sym (ap (λ r. r.host) same);
-      some = not_empty user (first_so (not (is_empty user)) (is_none (name_fault 32 user)) e);
-      user_rules = no_fault _ (second_so (not (is_empty user)) (is_none (name_fault 32 user)) e);
-      host_rules = no_fault _ (first_so (is_none (name_fault 255 host)) (is_some (form_of (str_to_ascii_lowercase host))) f);
+      some = not_empty user (first_so (is_some_text user) (is_none (name_fault 32 user)) e);
+      user_rules = none_from _ (second_so (is_some_text user) (is_none (name_fault 32 user)) e);
+      host_rules = none_from _ (first_so (is_none (name_fault 255 host)) (is_some (form_of (str_to_ascii_lowercase host))) f);
       comparable = second_so (is_none (name_fault 255 host)) (is_some (form_of (str_to_ascii_lowercase host))) f;
     }
 rules_test user host role true false e f is = cc
@@ -121,7 +122,7 @@ rules_test user host role false t e f is = cc
 
 pub role_found : (text name place : List ℕ) (role : AuthId) → SpellsAccount text (value_of name) (value_of place) → role_of name place ≡ Some role → SpellsRole text role
 role_found text name place role spelled is =
-    let rules = rules_test (value_of name) (value_of place) role (is_role_user (value_of name)) (is_role_host (value_of place)) refl refl is in
+    let rules = rules_test (value_of name) (value_of place) role (is_role_user (value_of name)) (is_host (value_of place)) refl refl is in
     record {
       host = value_of place;
       spelled = subst (λ u. SpellsAccount text u (value_of place)) (sym rules.user_is) spelled;

@@ -1,12 +1,12 @@
 -- A text of many bytes has many characters, so it is no name.
-use Rattle.std.proofs.Common.{◌≡◌, ℕ, suc, ◌*◌, ◌<◌, ◌≤◌, Bool, true, false, cond, not, ◌&&◌, eqb, nat_lt, is_none, List, [], ◌∷◌, Option, Some, None, length, refl, sym, ap, arith, IsUtf8, chars, encode_utf8_all, length-append, position}
+use Rattle.std.proofs.Common.{◌≡◌, ℕ, suc, ◌*◌, ◌<◌, ◌≤◌, Bool, true, false, cond, ◌&&◌, eqb, nat_lt, is_none, List, [], ◌∷◌, Option, Some, None, length, refl, sym, ap, arith, IsUtf8, chars, encode_utf8_all, length-append, position}
 use Rattle.std.proofs.lemmas.Bool.Decides.{nat_tests}
 use Rattle.std.proofs.lemmas.Str.{encodes-chars, len_utf8_bounds, length-encode}
 use Rattle.std.specs.Char.{encode_utf8, is_ascii_control}
 use Rattle.acl_names.specs.Name.{control_fault, length_fault, name_fault}
 use Rattle.acl_names.specs.declared.refusal.NameRefusal.{NameRefusal}
 use Rattle.mandatory_roles.specs.Roles.{host_of, user_of}
-use Rattle.mandatory_roles.specs.Cutting.{is_empty}
+use Rattle.grant_words.specs.Names.{is_some_text}
 use Rattle.acl_names.specs.declared.refusal.NameRefusal.TheVariants.{TooLong}
 
 encodes_long : (cs : List ℕ) → length (encode_utf8_all cs) ≤ 4 * length cs
@@ -40,7 +40,7 @@ fails_both true b x e = rw e refl
 fails_both false b x e = refl
 
 pub no_user_long : (name : List ℕ) → IsUtf8 name → 4 * 32 < length name → None ≡ user_of name
-no_user_long name utf8 long = fails_both (not (is_empty name)) (is_none (name_fault 32 name)) name (long_name 32 name utf8 long)
+no_user_long name utf8 long = fails_both (is_some_text name) (is_none (name_fault 32 name)) name (long_name 32 name utf8 long)
 
 not_zero : (n : ℕ) → eqb (suc n) 0 ≡ true → ⊥
 not_zero n e = grind (arith, nat_tests)

@@ -2,7 +2,7 @@
 use Rattle.std.proofs.Common.{◌≡◌, ℕ, zero, suc, ◌+◌, ◌-◌, ◌<◌, ◌≤◌, Bool, true, false, cond, eqb, List, [], ◌∷◌, ◌++◌, Option, Some, None, option_map, length, refl, sym, subst, ap, ◌∙◌, arith, append_assoc}
 use Rattle.std.proofs.lemmas.Bool.{true≢false}
 use Rattle.acl_names.specs.declared.auth.AuthId.{AuthId}
-use Rattle.mandatory_roles.specs.Cutting.{Written, behind, written_at}
+use Rattle.mandatory_roles.specs.Cutting.{Written, past_mark, written_at}
 use Rattle.mandatory_roles.specs.Roles.{role_of, roles_behind, roles_in, roles_up_to, with_role, with_written}
 
 pub none_up_to : (text : List ℕ) → roles_up_to 0 text ≡ None
@@ -43,7 +43,7 @@ stop_test : (t : Bool) (more : List ℕ → Option (List AuthId)) (bs : List ℕ
 stop_test true more bs e = cc
 stop_test false more bs e = refl
 
-behind_none : (more : List ℕ → Option (List AuthId)) (left : List ℕ) → eqb (length left) 0 ≡ false → None ≡ behind 44 left → roles_behind more left ≡ None
+behind_none : (more : List ℕ → Option (List AuthId)) (left : List ℕ) → eqb (length left) 0 ≡ false → None ≡ past_mark 44 left → roles_behind more left ≡ None
 behind_none more [] some no_comma = absurd (true≢false some)
 behind_none more (b ∷ bs) some no_comma = stop_test (eqb b 44) more bs no_comma
 
@@ -51,7 +51,7 @@ more_test : (t : Bool) (more : List ℕ → Option (List AuthId)) (bs rest : Lis
 more_test true more bs rest e = let same : bs ≡ rest = cc in ap more same
 more_test false more bs rest e = cc
 
-behind_some : (more : List ℕ → Option (List AuthId)) (left rest : List ℕ) → Some rest ≡ behind 44 left → roles_behind more left ≡ more rest
+behind_some : (more : List ℕ → Option (List AuthId)) (left rest : List ℕ) → Some rest ≡ past_mark 44 left → roles_behind more left ≡ more rest
 behind_some more [] rest comma = cc
 behind_some more (b ∷ bs) rest comma = more_test (eqb b 44) more bs rest comma
 
@@ -84,11 +84,11 @@ module _ (text : List ℕ) (i : ℕ) (roles : List AuthId) (rest : List ℕ) (so
     read_last role is ends =
         sym (role_step (Some role) is ∙ ap (λ l. put_before roles (with_role (roles_up_to (4096 - (i + 1))) l (Some role))) ends)
 
-    pub read_stop : (role : AuthId) → Some role ≡ role_of name host → eqb (length left) 0 ≡ false → None ≡ behind 44 left → None ≡ roles_in text
+    pub read_stop : (role : AuthId) → Some role ≡ role_of name host → eqb (length left) 0 ≡ false → None ≡ past_mark 44 left → None ≡ roles_in text
     read_stop role is goes_on no_comma =
         sym (role_step (Some role) is ∙ ap (λ o. put_before roles (option_map (λ others. role ∷ others) o)) (behind_none (roles_up_to (4096 - (i + 1))) left goes_on no_comma))
 
-    pub read_more : (role : AuthId) (more : List ℕ) → Some role ≡ role_of name host → Some more ≡ behind 44 left → IsReadSoFar text (i + 1) (roles ++ role ∷ []) more
+    pub read_more : (role : AuthId) (more : List ℕ) → Some role ≡ role_of name host → Some more ≡ past_mark 44 left → IsReadSoFar text (i + 1) (roles ++ role ∷ []) more
     read_more role more is comma =
         role_step (Some role) is
         ∙ ap (λ o. put_before roles (option_map (λ others. role ∷ others) o)) (behind_some (roles_up_to (4096 - (i + 1))) left more comma)

@@ -19,14 +19,14 @@ abbrev pub is_empty : List ℕ → Bool
 is_empty [] = true
 is_empty (b ∷ bs) = false
 
-abbrev pub begins : ℕ → List ℕ → Bool
-begins mark [] = false
-begins mark (b ∷ bs) = b == mark
+abbrev pub begins_with_mark : ℕ → List ℕ → Bool
+begins_with_mark mark [] = false
+begins_with_mark mark (b ∷ bs) = b == mark
 
 -- what follows the mark, where the text begins with it
-abbrev pub behind : ℕ → List ℕ → Option (List ℕ)
-behind mark [] = None
-behind mark (b ∷ bs) = if b == mark then Some bs else None
+abbrev pub past_mark : ℕ → List ℕ → Option (List ℕ)
+past_mark mark [] = None
+past_mark mark (b ∷ bs) = if b == mark then Some bs else None
 
 -- the same cut with this byte before
 abbrev pub byte_before : ℕ → Option Cut → Option Cut
@@ -52,16 +52,16 @@ word_at text =
     else Some (record { front = run_of is_word_byte text; rest = past_run is_word_byte text })
 
 abbrev pub name_at : List ℕ → Option Cut
-name_at text = if begins 96 text then quoted_at text else word_at text
+name_at text = if begins_with_mark 96 text then quoted_at text else word_at text
 
 -- all text up to a comma or a blank, where it does not begin with a quote of strings
 abbrev pub plain_host_at : List ℕ → Option Cut
 plain_host_at text =
-    if begins 39 text || begins 34 text || is_empty (run_of is_host_byte text) then None
+    if begins_with_mark 39 text || begins_with_mark 34 text || is_empty (run_of is_host_byte text) then None
     else Some (record { front = run_of is_host_byte text; rest = past_run is_host_byte text })
 
 abbrev pub host_at : List ℕ → Option Cut
-host_at text = if begins 96 text then quoted_at text else plain_host_at text
+host_at text = if begins_with_mark 96 text then quoted_at text else plain_host_at text
 
 -- the name with the host that stands behind its `@`
 abbrev pub with_host : List ℕ → Option Cut → Option Written
@@ -73,7 +73,7 @@ host_behind name rest None = Some (record { name = name; host = codes "%"; rest 
 host_behind name rest (Some after) = with_host name (host_at (past_blanks after))
 
 abbrev pub past_name : Cut → Option Written
-past_name cut = host_behind cut.front (past_blanks cut.rest) (behind 64 (past_blanks cut.rest))
+past_name cut = host_behind cut.front (past_blanks cut.rest) (past_mark 64 (past_blanks cut.rest))
 
 unfoldable pub written_at : List ℕ → Option Written
 written_at text = option_and_then past_name (name_at (past_blanks text))

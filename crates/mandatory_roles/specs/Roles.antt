@@ -1,26 +1,18 @@
 -- The roles in a text, as a function from left to right: by law those that the text spells.
-use Rattle.std.specs.Prelude.{◌≡◌, ℕ, zero, suc, Bool, ◌==◌, ◌&&◌, is_some, is_none, not, if◌then◌else◌, List, [], ◌∷◌, Option, Some, None, option_map, codes, refl}
+use Rattle.std.specs.Prelude.{◌≡◌, ℕ, zero, suc, ◌==◌, if◌then◌else◌, List, [], ◌∷◌, Option, Some, None, option_map, codes, refl}
 use Rattle.std.specs.Str.{chars, str_to_ascii_lowercase}
 use Rattle.account_match.specs.Form.{form_of}
-use Rattle.acl_names.specs.Name.{name_fault}
 use Rattle.acl_names.specs.declared.auth.AuthId.{AuthId}
 use Rattle.grant_lex.specs.Value.{value_of, inside_value}
 use Rattle.grant_lex.specs.Reserved.{reserved_words}
-use Rattle.mandatory_roles.specs.Cutting.{Written, closed_at, is_empty, written_at}
-
--- within the rules of users, and not empty
-abbrev pub is_role_user : List ℕ → Bool
-is_role_user user = not (is_empty user) && is_none (name_fault 32 user)
-
--- within the rules of hosts, and in lower case a host that can be compared with clients
-abbrev pub is_role_host : List ℕ → Bool
-is_role_host host = is_none (name_fault 255 host) && is_some (form_of (str_to_ascii_lowercase host))
+use Rattle.grant_words.specs.Names.{is_host, is_role_user}
+use Rattle.mandatory_roles.specs.Cutting.{Written, closed_at, written_at}
 
 abbrev pub user_of : List ℕ → Option (List ℕ)
 user_of user = if is_role_user user then Some user else None
 
 abbrev pub host_of : List ℕ → Option (List ℕ)
-host_of host = if is_role_host host then Some (str_to_ascii_lowercase host) else None
+host_of host = if is_host host then Some (str_to_ascii_lowercase host) else None
 
 -- the role of these two, where both are there
 abbrev pub role_from : Option (List ℕ) → Option (List ℕ) → Option AuthId

@@ -1,6 +1,6 @@
 ghost use Rattle.std.specs.Prelude.{◌≡◌, ◌-◌, ◌<◌, ◌≤◌, option_map, take, drop, length, slice_index, IfSome};
 ghost use Rattle.std.specs.Option.{option_copied};
-ghost use Rattle.mandatory_roles.specs.Cutting.{behind, begins, closed_at, host_at, name_at, plain_host_at, quoted_at, word_at, written_at};
+ghost use Rattle.mandatory_roles.specs.Cutting.{past_mark, begins_with_mark, closed_at, host_at, name_at, plain_host_at, quoted_at, word_at, written_at};
 
 use crate::runs::{Run, past_blanks, split_run};
 use grant_lex::is_reserved;
@@ -21,7 +21,7 @@ pub(crate) fn written_at(text: &str) -> Option<Written<'_>>
 {
     let (name, rest) = name_at(past_blanks(text))?;
     let rest = past_blanks(rest);
-    match behind(rest, b'@') {
+    match past_mark(rest, b'@') {
         None => Some(Written {
             name,
             host: "%",
@@ -36,9 +36,9 @@ pub(crate) fn written_at(text: &str) -> Option<Written<'_>>
 }
 
 /// What follows `mark`, an ASCII byte, where `text` begins with it.
-pub(crate) fn behind(text: &str, mark: u8) -> Option<&str>
+pub(crate) fn past_mark(text: &str, mark: u8) -> Option<&str>
     requires { mark < 128 }
-    ensures { option_copied result ≡ behind mark text.now }
+    ensures { option_copied result ≡ past_mark mark text.now }
 {
     match text.as_bytes() {
         [first, ..] if *first == mark => Some(&text[1..]),
@@ -46,8 +46,8 @@ pub(crate) fn behind(text: &str, mark: u8) -> Option<&str>
     }
 }
 
-fn begins(text: &str, mark: u8) -> bool
-    ensures { result ≡ begins mark text.now }
+fn begins_with_mark(text: &str, mark: u8) -> bool
+    ensures { result ≡ begins_with_mark mark text.now }
 {
     match text.as_bytes() {
         [first, ..] => *first == mark,
@@ -58,7 +58,7 @@ fn begins(text: &str, mark: u8) -> bool
 fn name_at(text: &str) -> Option<(&str, &str)>
     ensures { option_map (λ cut. record { front = cut.0.now; rest = cut.1.now }) result ≡ name_at text.now }
 {
-    if begins(text, b'`') {
+    if begins_with_mark(text, b'`') {
         quoted_at(text)
     } else {
         word_at(text)
@@ -79,7 +79,7 @@ fn word_at(text: &str) -> Option<(&str, &str)>
 fn host_at(text: &str) -> Option<(&str, &str)>
     ensures { option_map (λ cut. record { front = cut.0.now; rest = cut.1.now }) result ≡ host_at text.now }
 {
-    if begins(text, b'`') {
+    if begins_with_mark(text, b'`') {
         quoted_at(text)
     } else {
         plain_host_at(text)
@@ -90,7 +90,7 @@ fn plain_host_at(text: &str) -> Option<(&str, &str)>
     ensures { option_map (λ cut. record { front = cut.0.now; rest = cut.1.now }) result ≡ plain_host_at text.now }
 {
     let (host, rest) = split_run(text, Run::Host);
-    if begins(text, b'\'') || begins(text, b'"') || host.is_empty() {
+    if begins_with_mark(text, b'\'') || begins_with_mark(text, b'"') || host.is_empty() {
         None
     } else {
         Some((host, rest))

@@ -4,7 +4,7 @@ ghost use Rattle.grant_lex.specs.Value.{value_of};
 ghost use Rattle.mandatory_roles.specs.Roles.{host_of, role_of, roles_in, user_of};
 ghost use Rattle.mandatory_roles.specs.Spelling.{IsReadAs};
 
-use crate::cutting::{behind, written_at};
+use crate::cutting::{past_mark, written_at};
 use account_match::{HostPattern, HostRefusal};
 use acl_items::Items;
 use acl_names::{AuthId, HOST_LIMIT, HostText, NameRefusal, USER_LIMIT, UserName};
@@ -43,7 +43,7 @@ fn roles_in(alloc: Global, text: &str) -> Result<Option<Items<AuthId>>, AllocErr
         if written.rest.is_empty() {
             return Ok(Some(roles));
         }
-        let Some(more) = behind(written.rest, b',') else {
+        let Some(more) = past_mark(written.rest, b',') else {
             return Ok(None);
         };
         rest = more;

@@ -3,11 +3,11 @@ use Rattle.std.proofs.Common.{◌≡◌, true, List, ◌∷◌}
 use Rattle.std.specs.List.{list_all}
 use Rattle.acl_grammar.specs.Spelling.{spells}
 use Rattle.acl_names.specs.declared.auth.AuthId.{AuthId}
-use Rattle.canonical_texts.proofs.Accounts.{account_spelled}
+use Rattle.canonical_texts.proofs.SpelledAccounts.{account_spelled}
 use Rattle.canonical_texts.specs.Rules.{account_keeps_rules}
 use Rattle.canonical_texts.specs.Tokens.{account_tokens, accounts_tokens}
-use Rattle.grant_words.specs.Lists.{accounts}
 use Rattle.grant_words.specs.Lexemes.{printed_lexemes}
+use Rattle.grant_words.specs.Lists.{accounts}
 use Rattle.grant_words.specs.Names.{account}
 use Rattle.grant_words.specs.Syntax.{grammar_of}
 use Rattle.privilege_texts.proofs.Members.{each_kept, list_spelled}

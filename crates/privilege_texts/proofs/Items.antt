@@ -1,5 +1,4 @@
 -- The items of a list of privileges, each from the words of its name.
-use Rattle.grant_words.specs.Lexemes.{printed_lexeme, printed_lexemes}
 use Rattle.std.proofs.Common.{◌≡◌, ◌∙◌, refl, sym, ap, subst, ℕ, zero, suc, ◌+◌, ◌≤◌, ◌<◌, ◌==◌, ◌||◌, true, false, List, [], ◌∷◌, ◌++◌, map, inl, inr, arith}
 use Rattle.std.proofs.lemmas.Bool.{cases_lt, eqb-true, or_cases, true≢false}
 use Rattle.std.specs.List.{flat_map, list_all}
@@ -7,9 +6,11 @@ use Rattle.std.specs.Prelude.{Some, codes}
 use Rattle.acl_grammar.specs.Spelling.{spells}
 use Rattle.acl_stmt.specs.Columns.{is_some_list}
 use Rattle.acl_stmt.specs.declared.columns.ColumnPriv.{ColumnPriv}
+use Rattle.canonical_texts.proofs.Lexemes.{lexemes_append}
 use Rattle.canonical_texts.specs.Tokens.{column_tokens, columns_item_tokens, list_tokens, mark, name, spaced_mark, spaced_name, word, words_of}
 use Rattle.grant_lex.specs.Printed.{Printed}
 use Rattle.grant_words.specs.Classes.{is, is_identifier}
+use Rattle.grant_words.specs.Lexemes.{printed_lexeme, printed_lexemes}
 use Rattle.grant_words.specs.Names.{ident}
 use Rattle.grant_words.specs.Syntax.{grammar_of}
 use Rattle.grant_words.specs.declared.lexeme.Lexeme.{Lexeme}
@@ -25,7 +26,6 @@ use Rattle.privilege_statements.proofs.ReadNames.{dynamic_spelled, plain_spelled
 use Rattle.privilege_statements.specs.NameTokens.{name_tokens, word_token}
 use Rattle.privilege_statements.specs.PrivilegeItems.{column_names, item, maybe_columns, privilege_item, static_privilege}
 use Rattle.privilege_statements.specs.PrivilegeNames.{lone_class, lone_number, lone_numbers, numbers_from, other_name, static_name}
-use Rattle.canonical_texts.proofs.Lexemes.{lexemes_append}
 use Rattle.privilege_texts.proofs.Members.{each_kept, list_spelled}
 use Rattle.privilege_texts.proofs.Names.{ident_spelled}
 

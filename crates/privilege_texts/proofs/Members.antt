@@ -1,14 +1,13 @@
 -- Tokens part by part, and lists member by member.
-use Rattle.canonical_texts.proofs.Lexemes.{comma_is, lexemes_append}
-use Rattle.grant_words.specs.Lexemes.{printed_lexeme, printed_lexemes}
-use Rattle.std.proofs.Common.{◌≡◌, refl, sym, ap, subst, Bool, true, List, [], ◌∷◌, ◌++◌, map, append-nil}
+use Rattle.std.proofs.Common.{◌≡◌, sym, ap, subst, Bool, true, List, [], ◌∷◌, ◌++◌, append-nil}
 use Rattle.std.proofs.lemmas.Bool.{and_parts}
-use Rattle.std.proofs.lemmas.List.{map-append}
 use Rattle.std.specs.List.{list_all}
 use Rattle.acl_grammar.specs.Spelling.{separated}
+use Rattle.canonical_texts.proofs.Lexemes.{comma_is, lexemes_append}
 use Rattle.canonical_texts.specs.Tokens.{list_tokens, mark}
 use Rattle.grant_lex.specs.Printed.{Printed}
 use Rattle.grant_words.specs.Classes.{is}
+use Rattle.grant_words.specs.Lexemes.{printed_lexeme, printed_lexemes}
 use Rattle.grant_words.specs.Lists.{comma}
 use Rattle.grant_words.specs.declared.lexeme.Lexeme.{Lexeme}
 

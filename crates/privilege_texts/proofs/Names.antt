@@ -1,9 +1,9 @@
 -- Names in backquotes as tokens.
-use Rattle.grant_words.specs.Lexemes.{printed_lexeme}
 use Rattle.std.proofs.Common.{◌≡◌, ◌∙◌, refl, sym, ap, ℕ, true, List, [], ◌∷◌}
 use Rattle.acl_grammar.specs.Spelling.{spells}
 use Rattle.canonical_texts.specs.Tokens.{name}
 use Rattle.grant_words.specs.Classes.{is, is_identifier}
+use Rattle.grant_words.specs.Lexemes.{printed_lexeme}
 use Rattle.grant_words.specs.Names.{ident}
 use Rattle.grant_words.specs.Syntax.{grammar_of}
 use Rattle.mandatory_roles.proofs.Names.{value_quoted}

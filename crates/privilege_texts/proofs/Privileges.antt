@@ -1,7 +1,6 @@
 -- Lists of privileges: ALL, USAGE, or the items in their order.
-use Rattle.grant_words.specs.Lexemes.{printed_lexeme, printed_lexemes}
-use Rattle.std.proofs.Common.{◌≡◌, ◌∙◌, refl, sym, subst, ℕ, zero, suc, ◌<◌, ◌==◌, Bool, true, false, if◌then◌else◌, List, [], ◌∷◌, ◌++◌, inl, inr, arith}
-use Rattle.std.proofs.lemmas.Bool.{and_parts, cases_eq, eq-eqb, ne_eqb}
+use Rattle.std.proofs.Common.{◌≡◌, ◌∙◌, refl, ℕ, zero, suc, ◌<◌, ◌==◌, Bool, true, false, if◌then◌else◌, List, [], ◌∷◌, ◌++◌, inl, inr, arith}
+use Rattle.std.proofs.lemmas.Bool.{and_parts}
 use Rattle.std.specs.Int.{bit_at}
 use Rattle.std.specs.List.{flat_map, list_all}
 use Rattle.std.specs.Prelude.{codes}
@@ -11,6 +10,7 @@ use Rattle.acl_stmt.specs.declared.privileges.PrivList.{PrivList}
 use Rattle.canonical_texts.specs.Tokens.{columns_item_tokens, item_tokens, list_tokens, privileges_tokens, same_tokens, word, words_of}
 use Rattle.grant_lex.specs.Printed.{Printed}
 use Rattle.grant_words.specs.Classes.{is}
+use Rattle.grant_words.specs.Lexemes.{printed_lexeme, printed_lexemes}
 use Rattle.grant_words.specs.Lists.{comma}
 use Rattle.grant_words.specs.Syntax.{grammar_of}
 use Rattle.priv_items.specs.Canonical.{columns_at, dynamic_at, each_below, held_by, item_itself, items_of, member_if, or_usage, static_at}

@@ -3,22 +3,21 @@ use Rattle.std.proofs.Common.{◌≡◌, ◌∙◌, refl, sym, ap, subst, ℕ, �
 use Rattle.std.proofs.lemmas.Bool.{and_from, and_parts, eq-eqb}
 use Rattle.std.proofs.lemmas.List.Folds.{list_all-append}
 use Rattle.std.specs.List.{AllByRecursion, list_all}
-use Rattle.std.specs.Prelude.{Option, Some, None, not}
-use Rattle.std.specs.Str.{IsUtf8, chars, str_to_ascii_lowercase}
-use Rattle.account_match.specs.Form.{form_of}
+use Rattle.std.specs.Prelude.{Option, not}
+use Rattle.std.specs.Str.{IsUtf8, str_to_ascii_lowercase}
 use Rattle.acl_grammar.specs.Spelling.{separated, spells}
-use Rattle.acl_names.proofs.LowerTexts.{lowered_is_lower}
-use Rattle.acl_names.proofs.Lowered.{ident_fault-lowered, lowered-lowered, lowered_name}
-use Rattle.acl_names.specs.Name.{ident_fault, name_fault}
-use Rattle.acl_names.specs.Text.{is_lower}
+use Rattle.acl_names.proofs.Lowered.{ident_fault-lowered}
+use Rattle.acl_names.specs.Name.{ident_fault}
 use Rattle.acl_names.specs.declared.auth.AuthId.{AuthId}
 use Rattle.acl_stmt.specs.declared.columns.ColumnPriv.{ColumnPriv}
 use Rattle.acl_stmt.specs.declared.privileges.PrivList.{PrivList}
 use Rattle.acl_stmt.specs.declared.target.Target.{Target}
 use Rattle.acl_stmt.specs.declared.target.Target.TheVariants as on
+use Rattle.canonical_texts.proofs.SpelledAccounts.{account_keeps, none_from}
+use Rattle.canonical_texts.specs.Rules.{account_keeps_rules}
 use Rattle.grant_words.specs.Classes.{is, is_identifier, no_fault}
 use Rattle.grant_words.specs.Lists.{accounts, comma}
-use Rattle.grant_words.specs.Names.{account, at_host, ident, is_host, is_some, is_user}
+use Rattle.grant_words.specs.Names.{account, ident}
 use Rattle.grant_words.specs.Syntax.{grammar_of}
 use Rattle.grant_words.specs.declared.lexeme.Lexeme.{Lexeme}
 use Rattle.priv_items.proofs.EachOnce.{list_all-each_once, list_all-filter}
@@ -35,8 +34,6 @@ use Rattle.privilege_statements.proofs.Unescaping.{stays_a_name}
 use Rattle.privilege_statements.specs.PrivilegeItems.{column_names, item, maybe_columns, maybe_privileges, privilege_item, privileges, static_item, static_privilege}
 use Rattle.privilege_statements.specs.Targets.{behind_star, dotted, escaped_target, is_long_schema, long_target, marked_target, on_escaped_schema, schema_target, star_or_table, target}
 use Rattle.privilege_texts.specs.Rules.{IsText}
-use Rattle.canonical_texts.proofs.Accounts.{account_keeps, none_from}
-use Rattle.canonical_texts.specs.Rules.{account_keeps_rules}
 use Rattle.privilege_texts.specs.Rules.{columns_keep_rules, target_keeps_rules}
 
 each_passes : {T A : Type 0} (mark : T → Bool) (P : List T → A → Type 0) (test : A → Bool) → ((us : List T) (v : A) → P us v → test v ≡ true)

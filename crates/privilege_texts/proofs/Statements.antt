@@ -1,6 +1,4 @@
 -- GRANT and REVOKE of privileges are read back from their canonical tokens.
-use Rattle.grant_words.specs.Lexemes.{printed_lexeme, printed_lexemes}
-use Rattle.canonical_texts.specs.Lexemes.{canonical_lexemes}
 use Rattle.std.proofs.Common.{◌≡◌, ◌∙◌, refl, sym, ap, subst, Bool, true, false, cond, not, ◌&&◌, ◌||◌, List, [], ◌∷◌, ◌++◌, append_assoc, inl, inr}
 use Rattle.std.proofs.lemmas.Bool.{and_from, or_from}
 use Rattle.std.specs.List.{AllByRecursion, filter, list_all}
@@ -14,11 +12,15 @@ use Rattle.acl_stmt.specs.declared.statement.Statement.{Statement}
 use Rattle.acl_stmt.specs.declared.statement.Statement.TheVariants as statement
 use Rattle.acl_stmt.specs.declared.target.Target.{Target}
 use Rattle.acl_stmt.specs.declared.target.Target.TheVariants as on
+use Rattle.canonical_texts.proofs.Lexemes.{lexemes_append}
+use Rattle.canonical_texts.specs.Lexemes.{canonical_lexemes}
+use Rattle.canonical_texts.specs.Rules.{account_keeps_rules}
 use Rattle.canonical_texts.specs.StatementTokens.{further_tokens}
 use Rattle.canonical_texts.specs.Tokens.{accounts_tokens, opening, privileges_tokens, target_tokens, tokens_if, word, words_of}
 use Rattle.grant_lex.specs.Printed.{Printed}
 use Rattle.grant_parse.specs.Meaning.{MeansStatement, level_fault}
 use Rattle.grant_words.specs.Classes.{is}
+use Rattle.grant_words.specs.Lexemes.{printed_lexeme, printed_lexemes}
 use Rattle.grant_words.specs.Lists.{accounts}
 use Rattle.grant_words.specs.Syntax.{grammar_of}
 use Rattle.grant_words.specs.declared.lexeme.Lexeme.{Lexeme}
@@ -43,13 +45,11 @@ use Rattle.privilege_statements.specs.Targets.{target}
 use Rattle.privilege_statements.specs.declared.statement.RawStatement.{RawStatement}
 use Rattle.privilege_statements.specs.declared.statement.RawStatement.TheVariants as raw
 use Rattle.privilege_texts.proofs.Accounts.{accounts_spelled}
-use Rattle.canonical_texts.proofs.Lexemes.{lexemes_append}
 use Rattle.privilege_texts.proofs.Privileges.{privileges_spelled}
 use Rattle.privilege_texts.proofs.Spelled.{accounts_keep, all_back, all_front, granted_columns_keep, meant_target_keeps, revoked_columns_keep}
 use Rattle.privilege_texts.proofs.Targets.{target_spelled}
 use Rattle.privilege_texts.specs.Rules.{IsText}
-use Rattle.privilege_texts.specs.ReadBack.{IsReadBack}
-use Rattle.canonical_texts.specs.Rules.{account_keeps_rules}
+use Rattle.privilege_texts.specs.SpelledAgain.{IsSpelledAgain}
 use Rattle.privilege_texts.specs.Rules.{columns_keep_rules, names_keep_rules, parts_keep_rules, target_keeps_rules}
 
 on_target_spelled : (list : PrivList) (on_what : Target) → list_all columns_keep_rules list.columns ≡ true → target_keeps_rules on_what ≡ true
@@ -82,7 +82,7 @@ accounts_again ts [] spelled = absurd spelled
 accounts_again ts (first ∷ others) spelled = accounts_spelled first others (accounts_keep ts (first ∷ others) spelled)
 
 -- the tokens behind a target, from the keyword before the accounts on
-cut_behind : (first middle rest : List Printed) → printed_lexemes (first ++ (middle ++ rest)) ≡ printed_lexemes (first ++ middle) ++ lexemes rest
+cut_behind : (first middle rest : List Printed) → printed_lexemes (first ++ (middle ++ rest)) ≡ printed_lexemes (first ++ middle) ++ printed_lexemes rest
 cut_behind first middle rest = ap printed_lexemes (sym (append_assoc first middle rest)) ∙ lexemes_append (first ++ middle) rest
 
 module _ (list : PrivList) (on_what : Target) (all : List AuthId) (columns : list_all columns_keep_rules list.columns ≡ true) (keeps : target_keeps_rules on_what ≡ true)
@@ -165,7 +165,7 @@ or_none false b none = none
 
 grant_read_back : (ts ws zs : List Lexeme) (named : Named) (on_what : Target) (all : List AuthId) (option : Bool) (list : PrivList) → spells (grammar_of privileges) ts named
     → AllByRecursion IsText ws → spells (grammar_of target) ws on_what → spells (grammar_of accounts) zs all → wrong_level named on_what ≡ None → IsMeant (without_grant_option named) list
-    → IsReadBack (statement.Grant list (lowered_target on_what) all (option || names_grant_option named))
+    → IsSpelledAgain (statement.Grant list (lowered_target on_what) all (option || names_grant_option named))
 grant_read_back ts ws zs named on_what all option list named_spelled texts target_was accounts_were fits meant =
     let given : Bool = option || names_grant_option named in
     let no_option : holds list.plain grant_option ≡ false = meant.plain grant_option ∙ never_named named in
@@ -185,7 +185,7 @@ grant_read_back ts ws zs named on_what all option list named_spelled texts targe
 
 revoke_read_back : (ts ws zs : List Lexeme) (named : Named) (on_what : Target) (all : List AuthId) (list : PrivList) → spells (grammar_of privileges) ts named
     → AllByRecursion IsText ws → spells (grammar_of target) ws on_what → spells (grammar_of accounts) zs all → wrong_level named on_what ≡ None → IsMeant named list
-    → IsReadBack (statement.Revoke list (lowered_target on_what) all)
+    → IsSpelledAgain (statement.Revoke list (lowered_target on_what) all)
 revoke_read_back ts ws zs named on_what all list named_spelled texts target_was accounts_were fits meant =
     record {
       raw = raw.Revoke (items_of list) (lowered_target on_what) all;
@@ -203,30 +203,30 @@ behind_on us xs ys ps qs ws o each first second third =
     let back : AllByRecursion IsText qs = all_back IsText ps qs (subst (AllByRecursion IsText) second front) in
     (subst (AllByRecursion IsText) third back).1
 
-from_grant : (us : List Lexeme) (r : RawStatement) (s : Statement) → AllByRecursion IsText us → spells (grammar_of grant) us r → level_fault (inr r) ≡ None → MeansStatement (inr r) s → IsReadBack s
+from_grant : (us : List Lexeme) (r : RawStatement) (s : Statement) → AllByRecursion IsText us → spells (grammar_of grant) us r → level_fault (inr r) ≡ None → MeansStatement (inr r) s → IsSpelledAgain s
 unfolding grant privileges_on_target
 from_grant us r s each (v, (xs, ys, whole, (ps, qs, cut, named, (o, ws, good, behind, on_what)), (t, zs, good', behind', (ls, os, cut', all, option))), same) fault meant =
-    let P : RawStatement → Type 0 = λ x. level_fault (inr x) ≡ None → MeansStatement (inr x) s → IsReadBack s in
+    let P : RawStatement → Type 0 = λ x. level_fault (inr x) ≡ None → MeansStatement (inr x) s → IsSpelledAgain s in
     subst P (sym same) by fault meant
   where
-    by : wrong_level v.0.0 v.0.1 ≡ None → MeansStatement (inr (raw.Grant v.0.0 v.0.1 v.1.0 v.1.1)) s → IsReadBack s
+    by : wrong_level v.0.0 v.0.1 ≡ None → MeansStatement (inr (raw.Grant v.0.0 v.0.1 v.1.0 v.1.1)) s → IsSpelledAgain s
     by fits (list, list_meant, is_statement) =
-        subst IsReadBack (sym is_statement)
+        subst IsSpelledAgain (sym is_statement)
         (grant_read_back ps ws ls v.0.0 v.0.1 v.1.0 v.1.1 list named (behind_on us xs ys ps qs ws o each whole cut behind) on_what all fits list_meant)
 
-from_revoke : (us : List Lexeme) (r : RawStatement) (s : Statement) → AllByRecursion IsText us → spells (grammar_of revoke) us r → level_fault (inr r) ≡ None → MeansStatement (inr r) s → IsReadBack s
+from_revoke : (us : List Lexeme) (r : RawStatement) (s : Statement) → AllByRecursion IsText us → spells (grammar_of revoke) us r → level_fault (inr r) ≡ None → MeansStatement (inr r) s → IsSpelledAgain s
 unfolding revoke privileges_on_target
 from_revoke us r s each (v, (xs, ys, whole, (ps, qs, cut, named, (o, ws, good, behind, on_what)), (t, zs, good', behind', all)), same) fault meant =
-    let P : RawStatement → Type 0 = λ x. level_fault (inr x) ≡ None → MeansStatement (inr x) s → IsReadBack s in
+    let P : RawStatement → Type 0 = λ x. level_fault (inr x) ≡ None → MeansStatement (inr x) s → IsSpelledAgain s in
     subst P (sym same) by fault meant
   where
-    by : wrong_level v.0.0 v.0.1 ≡ None → MeansStatement (inr (raw.Revoke v.0.0 v.0.1 v.1)) s → IsReadBack s
+    by : wrong_level v.0.0 v.0.1 ≡ None → MeansStatement (inr (raw.Revoke v.0.0 v.0.1 v.1)) s → IsSpelledAgain s
     by fits (list, list_meant, is_statement) =
-        subst IsReadBack (sym is_statement)
+        subst IsSpelledAgain (sym is_statement)
         (revoke_read_back ps ws zs v.0.0 v.0.1 v.1 list named (behind_on us xs ys ps qs ws o each whole cut behind) on_what all fits list_meant)
 
 pub read_back : (ts : List Lexeme) (r : RawStatement) (s : Statement) → AllByRecursion IsText ts → spells (grammar_of privilege_statement) ts r → level_fault (inr r) ≡ None
-    → MeansStatement (inr r) s → IsReadBack s
+    → MeansStatement (inr r) s → IsSpelledAgain s
 unfolding privilege_statement
 read_back ts r s each (inl (t, us, good, cut, spelled)) fault meant = from_grant us r s (subst (AllByRecursion IsText) cut each).1 spelled fault meant
 read_back ts r s each (inr (t, us, good, cut, spelled)) fault meant = from_revoke us r s (subst (AllByRecursion IsText) cut each).1 spelled fault meant

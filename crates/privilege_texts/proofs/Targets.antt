@@ -1,13 +1,13 @@
 -- Targets, with the wildcards of a schema's name kept as they are.
-use Rattle.grant_words.specs.Lexemes.{printed_lexeme, printed_lexemes}
 use Rattle.std.proofs.Common.{◌≡◌, ◌∙◌, refl, sym, ap, ℕ, ◌==◌, Bool, true, false, not, ◌&&◌, if◌then◌else◌, List, [], ◌∷◌, ◌++◌, inl, inr}
-use Rattle.std.proofs.lemmas.Bool.{and_from, and_parts, eqb-true}
+use Rattle.std.proofs.lemmas.Bool.{and_from, and_parts}
 use Rattle.std.specs.Prelude.{Some, None, codes}
 use Rattle.acl_grammar.specs.Spelling.{spells}
 use Rattle.acl_stmt.specs.declared.target.Target.{Target}
 use Rattle.acl_stmt.specs.declared.target.Target.TheVariants as on
 use Rattle.canonical_texts.specs.Tokens.{mark, name, spaced_mark, spaced_name, target_tokens, word}
 use Rattle.grant_words.specs.Classes.{is, is_identifier}
+use Rattle.grant_words.specs.Lexemes.{printed_lexeme, printed_lexemes}
 use Rattle.grant_words.specs.Syntax.{grammar_of}
 use Rattle.mandatory_roles.proofs.Names.{value_quoted}
 use Rattle.priv_items.proofs.Escaping.{unescaped-escaped}

@@ -1,2 +1,2 @@
-pub mod ReadBack
 pub mod Rules
+pub mod SpelledAgain

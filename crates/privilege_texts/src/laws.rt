@@ -14,7 +14,7 @@ ghost use Rattle.grant_words.specs.Syntax.{grammar_of};
 ghost use Rattle.grant_words.specs.declared.lexeme.Lexeme.{Lexeme};
 ghost use Rattle.privilege_statements.specs.Statements.{privilege_statement};
 ghost use Rattle.privilege_statements.specs.declared.statement.RawStatement.{RawStatement};
-ghost use Rattle.privilege_texts.specs.ReadBack.{IsReadBack};
+ghost use Rattle.privilege_texts.specs.SpelledAgain.{IsSpelledAgain};
 ghost use Rattle.privilege_texts.specs.Rules.{IsText, names_keep_rules};
 
 /// The tokens that a text of UTF-8 is cut into stand for UTF-8.
@@ -36,5 +36,5 @@ pub fn spelled_names_keep_rules()
 pub fn canonical_texts_are_read_back()
     ensures { (tokens : List Lexeme) (raw : RawStatement) (statement : Statement) → AllByRecursion IsText tokens
         → spells (grammar_of privilege_statement) tokens raw → level_fault (inr raw) ≡ None
-        → MeansStatement (inr raw) statement → IsReadBack statement }
+        → MeansStatement (inr raw) statement → IsSpelledAgain statement }
 {}

@@ -4,10 +4,10 @@ use Rattle.std.specs.List.{AllByRecursion, position, position_or_len}
 use Rattle.std.specs.Str.{IsCharBoundary}
 use Rattle.std.proofs.lemmas.Str.{IsCharBoundary-after_ascii}
 use Rattle.grant_lex.proofs.Spans.{ascii_unless_word}
-use Rattle.grant_lex.proofs.Unique.{longest_same}
 use Rattle.grant_lex.specs.Class.{class_of}
 use Rattle.grant_lex.specs.Token.{PastBlanks}
-use Rattle.script_commands.specs.Moments.{IsBlank, IsMomentAt, is_no_blank}
+use Rattle.grant_lex.specs.Next.{IsBlank}
+use Rattle.script_commands.specs.Moments.{IsMomentAt, is_no_blank}
 
 blank_class : (b : ℕ) → is_no_blank b ≡ false → IsBlank b
 blank_class b h = grind arith
@@ -43,12 +43,6 @@ past at (b ∷ xs) = step (is_no_blank b) refl (past (at + 1) xs)
         let same : position_or_len is_no_blank (b ∷ xs) ≡ 1 + position_or_len is_no_blank xs =
         ap (λ (o : Bool). cond (not o) (1 + position_or_len is_no_blank xs) 0) e in
         subst (λ (n : ℕ). PastBlanks (IsMomentAt (at + n)) at (b ∷ xs)) (sym same) (more_blank at b xs (blank_class b e) k)
-
--- behind blanks one moment begins
-pub past_same : (at : ℕ) (xs : List ℕ) (place other : ℕ) → PastBlanks (IsMomentAt place) at xs → PastBlanks (IsMomentAt other) at xs → place ≡ other
-past_same at xs place other a b =
-    let same = longest_same IsBlank a.blanks b.blanks a.rest b.rest (sym a.whole ∙ b.whole) a.each b.each a.next.1 b.next.1 in
-    sym a.next.0 ∙ ap (λ (l : List ℕ). at + length l) same.0 ∙ b.next.0
 
 -- a place in a list, its element and what follows it
 head_at : (text : List ℕ) (at b : ℕ) (bs : List ℕ) → drop at text ≡ b ∷ bs → (at < length text) × (get_or text at 0 ≡ b) × (drop (at + 1) text ≡ bs)

@@ -4,3 +4,4 @@ pub mod Blanks
 pub mod Moments
 pub mod Ends
 pub mod Disjoint
+pub mod OneOption

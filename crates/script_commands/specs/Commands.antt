@@ -1,5 +1,5 @@
 -- Commands of a script: all but statements, and without the moment of a CONNECT.
-use Rattle.std.specs.Prelude.{ℕ, Bool, List, [], Some, None, codes}
+use Rattle.std.specs.Prelude.{ℕ, Bool, is_none, List, [], Some, None, codes}
 use Rattle.std.specs.Str.{str_to_ascii_lowercase}
 use Rattle.account_match.specs.declared.client.Client.{Client}
 use Rattle.account_match.specs.declared.client.Client.TheVariants.{Local, Tcp}
@@ -8,7 +8,7 @@ use Rattle.acl_names.specs.declared.auth.AuthId.{AuthId}
 use Rattle.acl_names.specs.declared.policy.Verifier.{Verifier}
 use Rattle.acl_stmt.specs.declared.roles.RoleForm.{RoleForm}
 use Rattle.acl_stmt.specs.declared.roles.RoleForm.TheVariants as form
-use Rattle.grant_words.specs.Classes.{Class, no_fault, word}
+use Rattle.grant_words.specs.Classes.{Class, word}
 use Rattle.grant_words.specs.Classes.Class.{valued}
 use Rattle.grant_words.specs.Classes.Sort.{string}
 use Rattle.grant_words.specs.Lists.{roles}
@@ -26,7 +26,7 @@ use Rattle.script_commands.specs.declared.command.RawCommand.TheVariants.{Discon
 
 -- at most 255 characters
 abbrev pub is_host_text : List ℕ → Bool
-is_host_text text = no_fault (name_fault 255 text)
+is_host_text text = is_none (name_fault 255 text)
 
 -- the address or the name of a client
 abbrev pub client_class : Class

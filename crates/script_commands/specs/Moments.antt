@@ -1,11 +1,10 @@
 -- The option AT of a CONNECT: a word AT behind tokens that spell the CONNECT, and what follows the word.
-use Rattle.std.specs.Prelude.{◌≡◌, ◌++◌, ◌&&◌, ◌==◌, not, ℕ, Bool, IsTrue, List, ◌∷◌, Option, Some, None, Result, Ok, Err, length, drop, codes}
+use Rattle.std.specs.Prelude.{◌≡◌, ◌++◌, not, ℕ, Bool, IsTrue, List, ◌∷◌, Option, Some, None, Result, Ok, Err, length, drop, codes}
 use Rattle.acl_grammar.specs.Reader.{Reading, expected}
 use Rattle.acl_grammar.specs.Spelling.{spells}
 use Rattle.grant_lex.specs.Class.{is_blank}
-use Rattle.grant_lex.specs.Next.{BeginsWithout, IsOf}
+use Rattle.grant_lex.specs.Next.{BeginsWithout, IsBlank}
 use Rattle.grant_lex.specs.Token.{PastBlanks, Reads}
-use Rattle.grant_lex.specs.declared.class.Class.TheVariants.{Blank}
 use Rattle.grant_lex.specs.declared.refusal.LexRefusal.{LexRefusal}
 use Rattle.grant_lex.specs.declared.sorts.Token.{Token}
 use Rattle.grant_words.specs.Classes.{Class, is, word}
@@ -14,10 +13,6 @@ use Rattle.grant_words.specs.Syntax.{grammar_of}
 use Rattle.grant_words.specs.declared.lexeme.Lexeme.{Lexeme}
 use Rattle.script_commands.specs.Commands.{connect}
 use Rattle.script_commands.specs.declared.command.Connect.{Connect}
-
--- a space or a tab
-abbrev pub IsBlank : ℕ → Type 0
-IsBlank b = IsOf Blank b
 
 -- AT
 abbrev pub at_word : Class

@@ -2,7 +2,6 @@
 //! the moment of a CONNECT begins.
 #![tactic(auto)]
 
-mod check;
 mod client;
 mod command;
 mod connection;
@@ -11,6 +10,7 @@ mod moment;
 mod number;
 mod roles;
 mod rules;
+mod session;
 
 pub use command::{Connect, RawCommand};
 pub use laws::{commands_are_no_statements, one_option_is_read};

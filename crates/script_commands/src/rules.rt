@@ -7,8 +7,8 @@ ghost use Rattle.script_commands.specs.Sanity.{command_sane, connect_sane};
 ghost use Rattle.script_commands.specs.declared.command.Connect.{Connect};
 ghost use Rattle.script_commands.specs.declared.command.RawCommand.{RawCommand};
 
-use crate::check::{awaited, session_command};
 use crate::connection::connection;
+use crate::session::{awaited, session_command};
 use crate::{Connect, RawCommand};
 use acl_grammar::{Found, Refusal, Rule, expect};
 use grant_words::{Keyword, Lexeme};

@@ -22,7 +22,7 @@ use Rattle.script_lines.specs.declared.refusal.CommandRefusal.{CommandRefusal}
 use Rattle.script_lines.specs.declared.refusal.CommandRefusal.TheVariants.{Text, Unbuilt}
 use Rattle.script_read.specs.Built.{IsBuiltCommand, IsBuiltRefusal, IsTextRefusal}
 use Rattle.script_read.specs.Commands.{IsCommand, IsCommandRefusal, IsMisplaced, IsMisspelled, IsMistimed, IsTimed, IsUntimed}
-use Rattle.script_read.specs.Options.{one_option}
+use Rattle.script_commands.proofs.OneOption.{option_once}
 use Rattle.script_read.specs.Written.{MeansCommand, MeansWritten, SpellsWritten, connect_at, written_fault}
 use Rattle.script_read.specs.declared.command.Command.{Command}
 use Rattle.script_read.specs.declared.command.Command.TheVariants as made
@@ -71,7 +71,7 @@ none_some a e = cc
 
 timed_once : (text : List ℕ) (a b : Command) → IsTimed text a → IsTimed text b → a ≡ b
 timed_once text a b h k =
-    let same = one_option text h.connect k.connect h.place k.place h.has_moment k.has_moment in
+    let same = option_once text h.connect k.connect h.place k.place h.has_moment k.has_moment in
     let moments : Some h.moment ≡ Some k.moment = sym h.moment_is ∙ ap (λ place. moment_of (drop place text)) same.1 ∙ k.moment_is in
     let moment = some_same h.moment k.moment moments in
     let both : connect_at h.connect (Some h.moment) ≡ connect_at k.connect (Some k.moment) = λ i. connect_at (same.0 i) (Some (moment i)) in
@@ -95,7 +95,7 @@ one_meaning text first second h k = one_kind text first second h.kind k.kind
 -- a text has one refusal
 
 one_offset : (text : List ℕ) (m n : ℕ) → IsMistimed text m ⊎ IsMisspelled text m → IsMistimed text n ⊎ IsMisspelled text n → m ≡ n
-one_offset text m n (inl h) (inl k) = (one_option text h.connect k.connect m n h.has_moment k.has_moment).1
+one_offset text m n (inl h) (inl k) = (option_once text h.connect k.connect m n h.has_moment k.has_moment).1
 one_offset text m n (inl h) (inr k) = absurd (k.no_option h.connect m h.has_moment)
 one_offset text m n (inr h) (inl k) = absurd (h.no_option k.connect n k.has_moment)
 one_offset text m n (inr h) (inr k) = syntax_once SpellsWritten text m n h.syntax k.syntax
@@ -132,7 +132,7 @@ one_refusal text Unbuilt second h k = absurd h
 
 kind_or_offset : (text : List ℕ) (c : Command) (n : ℕ) → IsTimed text c ⊎ IsUntimed text c → IsMistimed text n ⊎ IsMisspelled text n → ⊥
 kind_or_offset text c n (inl h) (inl k) =
-    let same = one_option text k.connect h.connect n h.place k.has_moment h.has_moment in
+    let same = option_once text k.connect h.connect n h.place k.has_moment h.has_moment in
     none_some h.moment (sym k.is_none ∙ ap (λ place. moment_of (drop place text)) same.1 ∙ h.moment_is)
 kind_or_offset text c n (inl h) (inr k) = k.no_option h.connect h.place h.has_moment
 kind_or_offset text c n (inr h) (inl k) = h.no_option k.connect n k.has_moment

@@ -8,7 +8,7 @@ use Rattle.acl_names.specs.declared.auth.AuthId.{AuthId}
 use Rattle.acl_names.specs.declared.policy.LockTime.{LockTime}
 use Rattle.acl_names.specs.declared.policy.LockTime.TheVariants.{Days, Unbounded}
 use Rattle.acl_stmt.specs.Columns.{is_some_list}
-use Rattle.acl_stmt.specs.Statements.{are_options, are_roles, is_default_form, is_lock_time, is_named, is_option_number as is_number, is_statement}
+use Rattle.acl_stmt.specs.Statements.{are_options, are_roles, is_default_form, is_lock_time, is_named, is_option_number, is_statement}
 use Rattle.acl_stmt.specs.declared.options.AccountOptions.{AccountOptions}
 use Rattle.acl_stmt.specs.declared.roles.DefaultForm.{DefaultForm}
 use Rattle.acl_stmt.specs.declared.statement.Statement.{Statement}
@@ -24,7 +24,7 @@ use Rattle.mandatory_roles.proofs.Lists.{in_found}
 use Rattle.mandatory_roles.specs.Roles.{roles_in}
 use Rattle.mandatory_roles.specs.Spelling.{SpellsRoles}
 use Rattle.user_statements.proofs.Numbers.{same_number}
-use Rattle.user_statements.specs.Options.{is_option_number, lock_time, no_options, number, options, setting, with_setting, with_settings}
+use Rattle.user_statements.specs.Options.{is_number_text, lock_time, no_options, number, options, setting, with_setting, with_settings}
 use Rattle.user_statements.specs.Statements.{alter_user, altered_account, create, create_role, create_user, default_form, drop, drop_role, drop_user, grant_roles, is_role_list, new_account, on_grants, rename_user, renaming, revoke, revoke_all, revoke_roles, roles_or_none, set, set_activate_all, set_default_role, set_mandatory, set_password, set_persist, user_statement}
 use Rattle.user_statements.specs.declared.setting.Setting.{Setting}
 use Rattle.user_statements.specs.declared.setting.Setting.TheVariants.{Attempts, Lock, Locked}
@@ -77,9 +77,9 @@ fits (Locked locked) = true
 number_fits : (ts : List Lexeme) (n : ℕ) → spells (grammar_of number) ts n → IsTrue (nat_le n 32767)
 unfolding number is
 number_fits ts n (t, here, one, value) =
-    let low : IsTrue (is_option_number (str_to_ascii_lowercase t.value)) =
-    both_right (has_sort plain_word t.kind t.value) (is_option_number (str_to_ascii_lowercase t.value)) here in
-    let number : IsTrue (is_option_number t.value) = sym (same_number t.value) ∙ low in
+    let low : IsTrue (is_number_text (str_to_ascii_lowercase t.value)) =
+    both_right (has_sort plain_word t.kind t.value) (is_number_text (str_to_ascii_lowercase t.value)) here in
+    let number : IsTrue (is_number_text t.value) = sym (same_number t.value) ∙ low in
     ap (λ m. nat_le m 32767) value
     ∙ both_right (nat_le 1 (length t.value) && nat_le (length t.value) 5 && list_all is_ascii_digit t.value) (nat_le (number_of t.value) 32767) number
 
@@ -95,11 +95,11 @@ setting_fits ts v (inr (inl (t, us, h, cut, (time, k, same)))) = ap fits same �
 setting_fits ts v (inr (inr (t, us, h, cut, (b, k, same)))) = ap fits same
 
 with_setting_fits : (old : AccountOptions) (v : Setting) → IsTrue (fits v) → IsTrue (are_options old) → IsTrue (are_options (with_setting old v))
-with_setting_fits old (Attempts n) h k = both_true (nat_le n 32767) (is_lock_time old.days) h (both_right (is_number old.attempts) (is_lock_time old.days) k)
+with_setting_fits old (Attempts n) h k = both_true (nat_le n 32767) (is_lock_time old.days) h (both_right (is_option_number old.attempts) (is_lock_time old.days) k)
 with_setting_fits old (Lock (Days n)) h k =
-    both_true (is_number old.attempts) (nat_le n 32767) (both_left (is_number old.attempts) (is_lock_time old.days) k) h
+    both_true (is_option_number old.attempts) (nat_le n 32767) (both_left (is_option_number old.attempts) (is_lock_time old.days) k) h
 with_setting_fits old (Lock Unbounded) h k =
-    both_true (is_number old.attempts) true (both_left (is_number old.attempts) (is_lock_time old.days) k) refl
+    both_true (is_option_number old.attempts) true (both_left (is_option_number old.attempts) (is_lock_time old.days) k) refl
 with_setting_fits old (Locked b) h k = k
 
 with_settings_fit : (vs : List Setting) (old : AccountOptions) → IsTrue (list_all fits vs) → IsTrue (are_options old)

@@ -15,11 +15,11 @@ use Rattle.user_statements.specs.declared.setting.Setting.{Setting}
 use Rattle.user_statements.specs.declared.setting.Setting.TheVariants.{Attempts, Lock, Locked}
 
 -- 1 to 5 digits, of a number up to 32,767
-abbrev pub is_option_number : List ℕ → Bool
-is_option_number text = nat_le 1 (length text) && nat_le (length text) 5 && list_all is_ascii_digit text && nat_le (number_of text) 32767
+abbrev pub is_number_text : List ℕ → Bool
+is_number_text text = nat_le 1 (length text) && nat_le (length text) 5 && list_all is_ascii_digit text && nat_le (number_of text) 32767
 
 abbrev pub number_class : Class
-number_class = valued plain_word is_option_number (codes "0")
+number_class = valued plain_word is_number_text (codes "0")
 
 unfoldable pub number : Syntax ℕ
 number = token number_class number_of

@@ -6,7 +6,7 @@ ghost use Rattle.acl_grammar.specs.Reader.{first, read};
 ghost use Rattle.grant_words.specs.Classes.{is};
 ghost use Rattle.grant_words.specs.Numbers.{number_of};
 ghost use Rattle.grant_words.specs.Syntax.{grammar_of};
-ghost use Rattle.user_statements.specs.Options.{is_option_number, lock, lock_time, no_options, number_class, options, setting, with_setting, with_settings};
+ghost use Rattle.user_statements.specs.Options.{is_number_text, lock, lock_time, no_options, number_class, options, setting, with_setting, with_settings};
 ghost use Rattle.user_statements.specs.Sanity.{number_sample, setting_sane};
 ghost use Rattle.user_statements.specs.declared.setting.Setting.{Setting};
 
@@ -45,7 +45,7 @@ impl TokenClass<Lexeme> for OptionNumber {
 }
 
 fn option_number(text: &[u8]) -> Option<u16>
-    ensures { result ≡ (if is_option_number text.now then Some (number_of text.now) else None) }
+    ensures { result ≡ (if is_number_text text.now then Some (number_of text.now) else None) }
 {
     if text.is_empty() || text.len() > 5 {
         return None;

@@ -1,11 +1,11 @@
 -- Lists are read as they are written.
-use Rattle.grant_words.specs.Lexemes.{printed_lexeme, printed_lexemes}
-use Rattle.std.proofs.Common.{◌≡◌, IsTrue, List, [], ◌∷◌, ◌++◌, append-nil, append_assoc, refl, sym, ap, subst, ◌∙◌}
+use Rattle.std.proofs.Common.{◌≡◌, List, [], ◌∷◌, ◌++◌, append-nil, append_assoc, sym, ap, subst, ◌∙◌}
 use Rattle.acl_grammar.specs.Spelling.{repeated, separated}
 use Rattle.canonical_texts.proofs.Lexemes.{comma_is, lexemes_append}
 use Rattle.canonical_texts.specs.Tokens.{list_tokens, mark}
 use Rattle.grant_lex.specs.Printed.{Printed}
 use Rattle.grant_words.specs.Classes.{is}
+use Rattle.grant_words.specs.Lexemes.{printed_lexeme, printed_lexemes}
 use Rattle.grant_words.specs.Lists.{comma}
 use Rattle.grant_words.specs.declared.lexeme.Lexeme.{Lexeme}
 

@@ -1,26 +1,19 @@
 -- Accounts and roles are read as they are written.
-use Rattle.grant_words.specs.Lexemes.{printed_lexeme, printed_lexemes}
-use Rattle.std.proofs.Common.{◌≡◌, ℕ, IsTrue, List, [], ◌∷◌, Option, Some, None, inl, inr, refl, sym, ap, subst, ◌∙◌}
-use Rattle.std.proofs.lemmas.Bool.{and_from}
-use Rattle.std.specs.Prelude.{codes}
-use Rattle.std.specs.Str.{chars, str_to_ascii_lowercase}
-use Rattle.account_match.specs.Form.{form_of}
+use Rattle.std.proofs.Common.{◌≡◌, ℕ, IsTrue, List, [], ◌∷◌, refl, sym, ap, subst, ◌∙◌}
 use Rattle.acl_grammar.specs.Spelling.{spells}
-use Rattle.acl_names.proofs.Lowered.{lowered-lowered, lowered_name}
-use Rattle.acl_names.specs.Name.{name_fault}
 use Rattle.acl_names.specs.declared.auth.AuthId.{AuthId}
+use Rattle.canonical_texts.proofs.SpelledAccounts.{account_keeps, account_spelled, host_keeps, host_spelled}
 use Rattle.canonical_texts.specs.Tokens.{account_tokens, accounts_tokens, mark, name, spaced_name}
-use Rattle.grant_words.proofs.Apart.{both_left, both_right}
-use Rattle.grant_words.specs.Classes.{has_sort, is, no_fault}
-use Rattle.grant_words.specs.Classes.Class.{mark as a_mark}
-use Rattle.grant_words.specs.Classes.Sort.{any_name as any_name_sort, name as name_sort}
+use Rattle.grant_words.proofs.Apart.{both_right}
+use Rattle.grant_words.specs.Classes.{has_sort, is}
+use Rattle.grant_words.specs.Classes.Sort.{name as name_sort}
+use Rattle.grant_words.specs.Lexemes.{printed_lexeme, printed_lexemes}
 use Rattle.grant_words.specs.Lists.{accounts, roles}
-use Rattle.grant_words.specs.Names.{account, at_host, auth_of, host_class, is_host, is_role_user, is_some, is_user, role, role_class, user_class}
+use Rattle.grant_words.specs.Names.{account, is_role_user, role, role_class}
 use Rattle.grant_words.specs.Syntax.{grammar_of}
 use Rattle.grant_words.specs.declared.lexeme.Lexeme.{Lexeme}
 use Rattle.mandatory_roles.proofs.Names.{value_quoted}
 use Rattle.user_texts.proofs.Lists.{list_again}
-use Rattle.canonical_texts.proofs.Accounts.{account_keeps, account_spelled, host_keeps, host_spelled}
 
 role_user_is : (user : List ℕ) (t : Lexeme) → IsTrue (is role_class t) → user ≡ t.value → IsTrue (is role_class (printed_lexeme (spaced_name user)))
 unfolding is

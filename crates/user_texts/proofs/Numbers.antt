@@ -9,7 +9,7 @@ use Rattle.std.specs.List.{list_all}
 use Rattle.std.specs.Prelude.{decimal}
 use Rattle.grant_lex.specs.Value.{value_of}
 use Rattle.grant_words.specs.Numbers.{number_behind, number_of}
-use Rattle.user_statements.specs.Options.{is_option_number}
+use Rattle.user_statements.specs.Options.{is_number_text}
 
 -- a digit more
 number_push : (before d : ℕ) (ds : List ℕ) → number_behind before (ds ++ d ∷ []) ≡ number_behind before ds * 10 + (d - 48)
@@ -45,7 +45,7 @@ test_le a b h = grind (arith, nat_tests)
 pub decimal_number : (n : ℕ) → IsTrue (nat_le n 32767) → number_of (decimal n) ≡ n
 decimal_number n h = let small = low n h in (decimal_is n (omega (arith, small))).same
 
-pub decimal_fits : (n : ℕ) → IsTrue (nat_le n 32767) → IsTrue (is_option_number (decimal n))
+pub decimal_fits : (n : ℕ) → IsTrue (nat_le n 32767) → IsTrue (is_number_text (decimal n))
 decimal_fits n h =
     let small : n ≤ 32767 = low n h in
     let digits : IsNumber n (decimal n) = decimal_is n (omega arith) in

@@ -1,5 +1,4 @@
 -- Options are read as they are written.
-use Rattle.grant_words.specs.Lexemes.{printed_lexeme, printed_lexemes}
 use Rattle.std.proofs.Common.{◌≡◌, ℕ, nat_le, Bool, IsTrue, true, false, List, [], ◌∷◌, ◌++◌, append-nil, Option, Some, None, inl, inr, refl, sym, ap, subst, ◌∙◌}
 use Rattle.std.specs.Prelude.{codes, decimal}
 use Rattle.acl_grammar.specs.Spelling.{repeated, spells}
@@ -7,19 +6,20 @@ use Rattle.acl_names.specs.declared.policy.LockTime.{LockTime}
 use Rattle.acl_names.specs.declared.policy.LockTime.TheVariants.{Days, Unbounded}
 use Rattle.acl_stmt.specs.Statements.{are_options, is_lock_time, is_option_number}
 use Rattle.acl_stmt.specs.declared.options.AccountOptions.{AccountOptions}
+use Rattle.canonical_texts.proofs.Lexemes.{lexemes_append}
 use Rattle.canonical_texts.specs.Tokens.{attempts_tokens, days_tokens, locked_tokens, options_tokens, word, words_of}
 use Rattle.grant_lex.specs.Printed.{Printed}
 use Rattle.grant_lex.specs.Value.{value_of}
 use Rattle.grant_words.proofs.Apart.{both_left, both_right}
 use Rattle.grant_words.specs.Classes.{is}
+use Rattle.grant_words.specs.Lexemes.{printed_lexeme, printed_lexemes}
+use Rattle.grant_words.specs.Numbers.{number_of}
 use Rattle.grant_words.specs.Syntax.{grammar_of}
 use Rattle.grant_words.specs.declared.lexeme.Lexeme.{Lexeme}
 use Rattle.user_statements.proofs.Numbers.{same_number}
-use Rattle.grant_words.specs.Numbers.{number_of}
-use Rattle.user_statements.specs.Options.{is_option_number as is_number_text, lock, lock_time, number, number_class, options, options_of, setting}
+use Rattle.user_statements.specs.Options.{is_number_text, lock, lock_time, number, number_class, options, options_of, setting}
 use Rattle.user_statements.specs.declared.setting.Setting.{Setting}
 use Rattle.user_statements.specs.declared.setting.Setting.TheVariants.{Attempts, Lock, Locked}
-use Rattle.canonical_texts.proofs.Lexemes.{lexemes_append}
 use Rattle.user_texts.proofs.Lists.{repeated_append}
 use Rattle.user_texts.proofs.Numbers.{decimal_fits, decimal_number, decimal_value}
 

@@ -1,21 +1,21 @@
 -- Passwords are read from the digests that they are written as.
-use Rattle.grant_words.specs.Lexemes.{printed_lexeme, printed_lexemes}
 use Rattle.std.proofs.Common.{IsTrue, List, [], ◌∷◌, append-nil, Option, Some, None, inl, inr, refl, sym, ap, subst, ◌∙◌}
 use Rattle.std.specs.Prelude.{codes}
 use Rattle.acl_grammar.specs.Spelling.{spells}
 use Rattle.acl_names.specs.declared.auth.AuthId.{AuthId}
 use Rattle.acl_names.specs.declared.policy.Verifier.{Verifier}
+use Rattle.canonical_texts.proofs.Lexemes.{lexemes_append}
 use Rattle.canonical_texts.specs.Tokens.{account_tokens, altered_tokens, digits_token, new_tokens, password_tokens, word, words_of}
 use Rattle.grant_words.proofs.Apart.{both_right}
 use Rattle.grant_words.specs.Classes.{has_sort, is, word as a_word}
 use Rattle.grant_words.specs.Classes.Sort.{string as string_sort}
+use Rattle.grant_words.specs.Lexemes.{printed_lexeme, printed_lexemes}
 use Rattle.grant_words.specs.Names.{account}
 use Rattle.grant_words.specs.Syntax.{grammar_of}
 use Rattle.grant_words.specs.declared.lexeme.Lexeme.{Lexeme}
 use Rattle.user_statements.specs.Secrets.{auth, by_secret, digest_class, digest_of, is_digest, secret}
 use Rattle.user_statements.specs.Statements.{altered_account, new_account}
 use Rattle.user_texts.proofs.Digests.{IsDigest, digits_fit, digits_mean, digits_value, given_digest, password_digest}
-use Rattle.canonical_texts.proofs.Lexemes.{lexemes_append}
 use Rattle.user_texts.proofs.Names.{account_again}
 
 pub secret_digest : (ts : List Lexeme) (v : Verifier) → spells (grammar_of secret) ts v → IsDigest v

@@ -1,18 +1,17 @@
 -- The list of mandatory roles is read back from its string.
-use Rattle.grant_words.specs.Lexemes.{printed_lexeme}
 use Rattle.std.proofs.Common.{◌≡◌, ◌≤◌, ℕ, IsTrue, is_some, List, [], ◌∷◌, length, Option, Some, None, refl, sym, ap, subst}
 use Rattle.std.specs.List.{AllByRecursion}
 use Rattle.acl_grammar.specs.Spelling.{spells}
 use Rattle.acl_names.proofs.Lowered.{lowered_name}
 use Rattle.acl_names.specs.Name.{IsLowerName}
 use Rattle.acl_names.specs.declared.auth.AuthId.{AuthId}
-use Rattle.acl_names.specs.declared.host.TheConstants.{HOST_LIMIT}
 use Rattle.canonical_texts.proofs.Strings.{mandatory_read}
 use Rattle.canonical_texts.specs.Quotes.{string_text}
 use Rattle.canonical_texts.specs.Tokens.{spaced_mark, string}
 use Rattle.grant_words.proofs.Apart.{both_right}
 use Rattle.grant_words.specs.Classes.{has_sort, is}
 use Rattle.grant_words.specs.Classes.Sort.{string as string_sort}
+use Rattle.grant_words.specs.Lexemes.{printed_lexeme}
 use Rattle.grant_words.specs.Syntax.{grammar_of}
 use Rattle.grant_words.specs.Syntax.Syntax.{after, token}
 use Rattle.grant_words.specs.declared.lexeme.Lexeme.{Lexeme}
@@ -20,14 +19,13 @@ use Rattle.mandatory_roles.proofs.Lists.{in_found}
 use Rattle.mandatory_roles.specs.Roles.{roles_in}
 use Rattle.mandatory_roles.specs.Spelling.{SpellsRole, SpellsRoles}
 use Rattle.mandatory_roles.specs.Text.{IsRole, roles_text}
-use Rattle.mandatory_roles.specs.declared.read.TheConstants.{ROLE_LIMIT}
 use Rattle.user_statements.specs.Statements.{equals, is_role_list, roles_class, roles_of, roles_or_none}
 
 role_is : (text : List ℕ) (v : AuthId) → SpellsRole text v → IsRole v
 role_is text v spelled = record {
   some = spelled.some;
   user = spelled.user_rules;
-  host = subst (IsLowerName HOST_LIMIT) (sym spelled.lowered) (lowered_name HOST_LIMIT spelled.host spelled.host_rules);
+  host = subst (IsLowerName 255) (sym spelled.lowered) (lowered_name 255 spelled.host spelled.host_rules);
   comparable = spelled.comparable;
 }
 
@@ -39,7 +37,7 @@ each_role text (v ∷ w ∷ vs) (first, others, cut, k, more) = (role_is k.inner
 -- roles that a list of mandatory roles may have
 record AreListed (vs : List AuthId) : Type 0 where
   each : AllByRecursion IsRole vs
-  few : length vs ≤ ROLE_LIMIT
+  few : length vs ≤ 4096
 
 are_listed : (text : List ℕ) (o : Option (List AuthId)) → roles_in text ≡ o → IsTrue (is_some o) → AreListed (roles_or_none o)
 are_listed text None e h = absurd (cc)

@@ -1,11 +1,11 @@
 -- The keywords and flags of statements are read as they are written.
-use Rattle.grant_words.specs.Lexemes.{printed_lexeme, printed_lexemes}
 use Rattle.std.proofs.Common.{ℕ, Bool, true, false, List, [], ◌∷◌, inl, inr, refl}
 use Rattle.std.specs.Prelude.{codes}
 use Rattle.acl_grammar.specs.Spelling.{spells}
 use Rattle.acl_stmt.specs.declared.statement.Statement.{Statement}
 use Rattle.canonical_texts.specs.Tokens.{tokens_if, word, words_of}
 use Rattle.grant_words.specs.Classes.{is}
+use Rattle.grant_words.specs.Lexemes.{printed_lexeme, printed_lexemes}
 use Rattle.grant_words.specs.Syntax.{grammar_of}
 use Rattle.grant_words.specs.declared.lexeme.Lexeme.{Lexeme}
 use Rattle.user_statements.specs.Flags.{if_exists, if_not_exists, with_admin_option}

@@ -1,5 +1,4 @@
 -- Statements on a password and on settings are read back.
-use Rattle.grant_words.specs.Lexemes.{printed_lexeme, printed_lexemes}
 use Rattle.std.proofs.Common.{◌≡◌, IsTrue, Bool, true, false, List, [], ◌∷◌, ◌++◌, Option, Some, None, cond, inl, inr, refl, sym, ap, subst, ◌∙◌}
 use Rattle.std.specs.Prelude.{codes}
 use Rattle.acl_grammar.specs.Spelling.{spells}
@@ -8,22 +7,23 @@ use Rattle.acl_names.specs.declared.policy.Verifier.{Verifier}
 use Rattle.acl_stmt.specs.Entries.{is_complete}
 use Rattle.acl_stmt.specs.declared.statement.Statement.{Statement}
 use Rattle.acl_stmt.specs.declared.statement.Statement.TheVariants.{SetPassword, SetMandatory, SetActivateAll}
+use Rattle.canonical_texts.proofs.Lexemes.{lexemes_append}
+use Rattle.canonical_texts.proofs.SpelledAccounts.{account_keeps, account_spelled}
 use Rattle.canonical_texts.specs.Quotes.{string_text}
+use Rattle.canonical_texts.specs.Rules.{account_keeps_rules}
 use Rattle.canonical_texts.specs.StatementTokens.{further_tokens}
 use Rattle.canonical_texts.specs.Tokens.{account_tokens, digits_token, spaced_mark, string, word}
 use Rattle.grant_words.specs.Classes.{is}
+use Rattle.grant_words.specs.Lexemes.{printed_lexeme, printed_lexemes}
 use Rattle.grant_words.specs.Syntax.{grammar_of}
 use Rattle.grant_words.specs.declared.lexeme.Lexeme.{Lexeme}
 use Rattle.mandatory_roles.specs.Text.{roles_text}
 use Rattle.user_statements.specs.Statements.{for_account, on_or_off, set_activate_all, set_mandatory, set_password}
 use Rattle.user_texts.proofs.Digests.{IsDigest}
-use Rattle.canonical_texts.proofs.Lexemes.{lexemes_append}
-use Rattle.canonical_texts.proofs.Accounts.{account_keeps, account_spelled}
 use Rattle.user_texts.proofs.Passwords.{secret_digest, secret_written}
 use Rattle.user_texts.proofs.Roles.{mandatory_again}
 use Rattle.user_texts.proofs.Rules.{from_activate_all, from_mandatory, from_password, key}
-use Rattle.user_texts.proofs.Users.{IsReadBack}
-use Rattle.canonical_texts.specs.Rules.{account_keeps_rules}
+use Rattle.user_texts.proofs.Users.{IsReadAgain}
 
 for_keeps : (ts : List Lexeme) (a : AuthId) → spells (grammar_of for_account) ts (Some a) → IsTrue (account_keeps_rules a)
 unfolding for_account
@@ -37,7 +37,7 @@ for_written : (a : AuthId) → IsTrue (account_keeps_rules a) → spells (gramma
 unfolding for_account is
 for_written a keeps = inl (key (codes "FOR"), printed_lexemes (account_tokens a), refl, refl, (a, account_spelled a keeps, refl))
 
-pub password_written : (a : AuthId) (v : Verifier) → IsTrue (account_keeps_rules a) → IsDigest v → IsReadBack (SetPassword (Some a) v)
+pub password_written : (a : AuthId) (v : Verifier) → IsTrue (account_keeps_rules a) → IsDigest v → IsReadAgain (SetPassword (Some a) v)
 unfolding set_password further_tokens is
 password_written a v keeps digest =
     let digits = key (codes "VERIFIER") ∷ printed_lexeme (digits_token v) ∷ [] in
@@ -55,19 +55,19 @@ password_written a v keeps digest =
     )
 
 named_password : (xs : List Lexeme) (o : Option AuthId) (v : Verifier) → spells (grammar_of for_account) xs o → IsDigest v
-    → IsTrue (is_complete (SetPassword o v)) → IsReadBack (SetPassword o v)
+    → IsTrue (is_complete (SetPassword o v)) → IsReadAgain (SetPassword o v)
 named_password xs None v named digest complete = absurd (cc)
 named_password xs (Some a) v named digest complete = password_written a v (for_keeps xs a named) digest
 
-pub password_again : (ts : List Lexeme) (s : Statement) → spells (grammar_of set_password) ts s → IsTrue (is_complete s) → IsReadBack s
+pub password_again : (ts : List Lexeme) (s : Statement) → spells (grammar_of set_password) ts s → IsTrue (is_complete s) → IsReadAgain s
 unfolding set_password
 password_again ts s (v, (xs, ys, cut, named, (t, us, h, cut', given)), same) complete =
-    subst IsReadBack (sym same) (named_password xs v.0 v.1 named (secret_digest us v.1 given) (sym (ap is_complete same) ∙ complete))
+    subst IsReadAgain (sym same) (named_password xs v.0 v.1 named (secret_digest us v.1 given) (sym (ap is_complete same) ∙ complete))
 
-pub mandatory_read_back : (ts : List Lexeme) (s : Statement) → spells (grammar_of set_mandatory) ts s → IsReadBack s
+pub mandatory_read_back : (ts : List Lexeme) (s : Statement) → spells (grammar_of set_mandatory) ts s → IsReadAgain s
 unfolding set_mandatory further_tokens
 mandatory_read_back ts s (vs, (t, us, h, cut, (x, here, one, value)), same) =
-    subst IsReadBack (sym same)
+    subst IsReadAgain (sym same)
     (from_mandatory (printed_lexemes (spaced_mark 61 ∷ string (string_text (roles_text vs)) ∷ [])) (SetMandatory vs)
     (vs, mandatory_again x vs here value, refl))
 
@@ -76,9 +76,9 @@ unfolding on_or_off is
 on_again true = inl (key (codes "ON"), [], refl, refl, (refl, refl))
 on_again false = inr (key (codes "OFF"), [], refl, refl, (refl, refl))
 
-pub activate_all_again : (ts : List Lexeme) (s : Statement) → spells (grammar_of set_activate_all) ts s → IsReadBack s
+pub activate_all_again : (ts : List Lexeme) (s : Statement) → spells (grammar_of set_activate_all) ts s → IsReadAgain s
 unfolding set_activate_all further_tokens is
 activate_all_again ts s (b, k, same) =
     let behind = key (cond b (codes "ON") (codes "OFF")) ∷ [] in
-    subst IsReadBack (sym same)
+    subst IsReadAgain (sym same)
     (from_activate_all (printed_lexeme (spaced_mark 61) ∷ behind) (SetActivateAll b) (b, (printed_lexeme (spaced_mark 61), behind, refl, refl, on_again b), refl))

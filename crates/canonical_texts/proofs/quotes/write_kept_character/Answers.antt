@@ -1,7 +1,7 @@
 use Rattle.std.proofs.Common.{◌≡◌, ◌∙◌, rules, sym, subst}
 use Rattle.std.specs.Char.{encode_utf8}
-use Rattle.canonical_texts.proofs.Characters.{kept-free, kept-other}
 use Rattle.priv_items.specs.Escapes.{escaped_behind}
+use Rattle.canonical_texts.proofs.Characters.{kept-free, kept-other}
 use Rattle.canonical_texts.proofs.quotes.write_kept_character.Goals as goal
 use Rattle.canonical_texts.proofs.quotes.write_kept_character.Goals.{else-after-via-then-after+else-is_wildcard, else-after-via-else-after}
 

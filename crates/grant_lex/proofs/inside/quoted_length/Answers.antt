@@ -1,15 +1,15 @@
 use Rattle.std.proofs.Common.{◌+◌, List, ℕ, length, arith, inr, sym, subst}
 use Rattle.std.proofs.lemmas.Slice.{between_to_end}
-use Rattle.grant_lex.specs.Inside.{Goes, Closes, HasBadPair, IsWithin}
+use Rattle.grant_lex.specs.Inside.{BeginsWithPiece, Closes, HasBadPair, ArePieces}
 use Rattle.grant_lex.proofs.Quotes.{bad_pair_within, closed_within, within_le, within_more}
 use Rattle.grant_lex.proofs.inside.quoted_length.Goals as goal
 
 pub loop-piece-preserved : goal.loop-piece-preserved
 loop-piece-preserved c =
     let inside = c.args.inside.now in
-    let goes = subst (λ (l : List ℕ). Goes c.args.quote l c.in-Next.piece) (between_to_end inside c.loop-piece.length (length inside) (omega arith)) c.in-Next.ensures in
-    let more : IsWithin c.args.quote inside (c.loop-piece.length + c.length-length.result) =
-    subst (λ k. IsWithin c.args.quote inside (c.loop-piece.length + k)) (sym (c.length-length.ensures c.args.quote)) (within_more _ _ _ _ c.loop-piece.invariant.pieces goes) in
+    let goes = subst (λ (l : List ℕ). BeginsWithPiece c.args.quote l c.in-Next.piece) (between_to_end inside c.loop-piece.length (length inside) (omega arith)) c.in-Next.ensures in
+    let more : ArePieces c.args.quote inside (c.loop-piece.length + c.length-length.result) =
+    subst (λ k. ArePieces c.args.quote inside (c.loop-piece.length + k)) (sym (c.length-length.ensures c.args.quote)) (within_more _ _ _ _ c.loop-piece.invariant.pieces goes) in
     record { within = within_le _ _ _ more; pieces = more }
 
 pub returns-in-Closing-clause-ok : goal.returns-in-Closing-clause-ok

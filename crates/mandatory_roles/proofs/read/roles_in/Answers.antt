@@ -29,18 +29,18 @@ returns-then-is_empty-2 c =
     let ends = empty_text _ (sym c.is_empty-in-loop-role.ensures ∙ c.if-is_empty-2.true) in
     ap Some c.in_ok-push.ensures.ok ∙ read_last c.args.text.now _ _ _ c.loop-role.invariant.so_far _ _ _ c.loop-role-test.true c.in-Some.ensures _ role ends
 
-pub returns-in_default-behind : goal.returns-in_default-behind
-returns-in_default-behind c =
+pub returns-in_default-past_mark : goal.returns-in_default-past_mark
+returns-in_default-past_mark c =
     let role = sym c.in-Some-2.is ∙ c.in_ok-role.ensures in
-    read_stop c.args.text.now _ _ _ c.loop-role.invariant.so_far _ _ _ c.loop-role-test.true c.in-Some.ensures _ role (sym c.is_empty-in-loop-role.ensures ∙ c.if-is_empty-2.false) c.in_default-behind.ensures
+    read_stop c.args.text.now _ _ _ c.loop-role.invariant.so_far _ _ _ c.loop-role-test.true c.in-Some.ensures _ role (sym c.is_empty-in-loop-role.ensures ∙ c.if-is_empty-2.false) c.in_default-past_mark.ensures
 
 pub loop-role-preserved : goal.loop-role-preserved
 loop-role-preserved c =
     let role = sym c.in-Some-2.is ∙ c.in_ok-role.ensures in
-    let more = read_more c.args.text.now _ _ _ c.loop-role.invariant.so_far _ _ _ c.loop-role-test.true c.in-Some.ensures _ _ role c.in-Some-behind.ensures in
+    let more = read_more c.args.text.now _ _ _ c.loop-role.invariant.so_far _ _ _ c.loop-role-test.true c.in-Some.ensures _ _ role c.in-Some-past_mark.ensures in
     record {
       utf8 = search rules;
-      so_far = subst (λ (rs : List AuthId). IsReadSoFar c.args.text.now (c.loop-role._role + 1) rs c.in-Some-behind.more.now) (sym c.in_ok-push.ensures.ok) more;
+      so_far = subst (λ (rs : List AuthId). IsReadSoFar c.args.text.now (c.loop-role._role + 1) rs c.in-Some-past_mark.more.now) (sym c.in_ok-push.ensures.ok) more;
     }
 
 pub returns : goal.returns

@@ -1,4 +1,4 @@
-use Rattle.script_commands.proofs.Moments.{option_once}
+use Rattle.script_commands.proofs.OneOption.{option_once}
 use Rattle.script_commands.proofs.laws.one_option_is_read.Goals as goal
 
 pub returns : goal.returns

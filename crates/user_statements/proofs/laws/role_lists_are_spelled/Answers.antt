@@ -3,7 +3,7 @@ use Rattle.acl_names.specs.declared.auth.AuthId.{AuthId}
 use Rattle.mandatory_roles.proofs.Lists.{in_found, in_only}
 use Rattle.mandatory_roles.specs.Roles.{roles_in}
 use Rattle.mandatory_roles.specs.Spelling.{SpellsRoles}
-use Rattle.user_statements.specs.Statements.{is_role_list, roles_of, roles_or_none}
+use Rattle.user_statements.specs.Statements.{roles_or_none}
 use Rattle.user_statements.proofs.laws.role_lists_are_spelled.Goals as goal
 
 found : (text : List ℕ) (o : Option (List AuthId)) → roles_in text ≡ o → IsTrue (is_some o)

@@ -1,4 +1,4 @@
--- Forms of commands, for examples: only those that open and close a connection.
+-- A sample of forms of commands: only those that open and close a connection.
 use Rattle.std.specs.Prelude.{Bool, true, false}
 use Rattle.script_read.specs.declared.command.Command.{Command}
 use Rattle.script_read.specs.declared.command.Command.TheVariants.{Connect, Disconnect}

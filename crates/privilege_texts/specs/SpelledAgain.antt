@@ -1,4 +1,4 @@
--- Statements that are read back from their canonical texts.
+-- Statements that the tokens of their canonical texts spell again.
 use Rattle.std.specs.Prelude.{◌≡◌, None}
 use mathlib.Core.Logic.{inr}
 use Rattle.acl_grammar.specs.Spelling.{spells}
@@ -11,7 +11,7 @@ use Rattle.privilege_statements.specs.declared.statement.RawStatement.{RawStatem
 
 -- the tokens of the canonical text spell a GRANT or a REVOKE, whose privileges have the level of their target, and which means
 -- the statement
-pub record IsReadBack (statement : Statement) : Type 0 where
+pub record IsSpelledAgain (statement : Statement) : Type 0 where
   pub raw : RawStatement
   pub spelled : spells (grammar_of privilege_statement) (canonical_lexemes statement) raw
   pub fits : level_fault (inr raw) ≡ None

@@ -1,6 +1,6 @@
 use Rattle.std.proofs.Common.{List, ℕ, arith, get_or, length, ◌<◌, ◌≤◌, subst}
 use Rattle.std.proofs.lemmas.Str.{IsCharBoundary-after_ascii}
-use Rattle.mandatory_roles.proofs.cutting.behind.Goals as goal
+use Rattle.mandatory_roles.proofs.cutting.past_mark.Goals as goal
 
 pub range_from-requires : goal.range_from-requires
 range_from-requires c =
