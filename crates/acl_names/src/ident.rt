@@ -1,5 +1,7 @@
 ghost use Rattle.std.specs.Prelude.{◌≡◌, ℕ, ◌<◌, ◌^◌, List, None, length, IfOk, IfErr, IsTrue, OnOk};
 ghost use Rattle.std.specs.Str.{str_to_ascii_lowercase};
+ghost use Rattle.std.proofs.Common.{rules};
+ghost use Rattle.std.specs.Cmp.Rules.{comparing};
 ghost use Rattle.acl_names.specs.Limits.{ident_limit};
 ghost use Rattle.acl_names.specs.Name.{IsRefusal, ident_fault};
 ghost use Rattle.acl_names.specs.Text.{is_lower, text_eq};
@@ -17,7 +19,7 @@ pub const IDENT_LIMIT: u32 = 64;
 /// The name of a schema, a table, a column or a routine, compared and ordered by its bytes. It is never empty.
 ///
 /// MySQL 8.0 Reference Manual, "Schema Object Names".
-#[derive(Debug, PartialEq, Eq, PartialOrd, Ord, Hash, Drop)]
+#[derive(Debug, Eq, PartialOrd, Ord, Hash, Drop)]
 pub struct Ident {
     text: NameText,
 }
@@ -88,5 +90,16 @@ impl Ident {
 impl Copied for Ident {
     fn copied(&self, alloc: Global) -> Result<Self, AllocError> {
         self.copy(alloc)
+    }
+}
+
+// By hand, so that sets of names say `text_eq` of their keys.
+impl PartialEq for Ident {
+    ghost eq = { text_eq };
+
+    ghost laws = { Prim.search (comparing, rules) };
+
+    fn eq(&self, other: &Ident) -> bool {
+        self.text == other.text
     }
 }

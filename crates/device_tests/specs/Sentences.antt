@@ -1,11 +1,10 @@
--- A small grammar over bytes, to try the readers on.
-use Rattle.std.specs.Prelude.{ℕ, ◌-◌, ◌≡◌, IsTrue, ◌&&◌, Bool, false, nat_eq, nat_le, List, [], ◌∷◌, ◌++◌, refl}
-use Rattle.std.proofs.Common.{arith, ap, sym, ◌∙◌}
+-- A small grammar over bytes, on which the readers are tried.
+use Rattle.std.specs.Prelude.{ℕ, ◌-◌, IsTrue, ◌&&◌, Bool, false, nat_eq, nat_le, List, refl}
+use Rattle.std.proofs.Common.{arith}
 use Rattle.std.proofs.lemmas.Bool.Decides.{nat_tests}
 use Rattle.acl_grammar.specs.Grammar.{Grammar}
 use Rattle.acl_grammar.specs.Grammar.Grammar.{token, after, empty, both, to, choice, list, many}
 use Rattle.acl_grammar.specs.Reader.{Sane, first}
-use Rattle.acl_grammar.specs.Spelling.{Disjoint}
 
 abbrev pub is : ℕ → ℕ → Bool
 is mark t = nat_eq t mark
@@ -42,9 +41,6 @@ pair = both letter (after (is 64) letter)
 abbrev pub pairs : Grammar ℕ (List (ℕ × ℕ))
 pairs = to (λ v. v.0) (both (list (is 44) pair) (after (is 63) (empty (tt {0}))))
 
-apart_marks : (x y : ℕ) → IsTrue (is 46 x) → IsTrue (is 63 y) → x ≡ y → ⊥
-apart_marks x y h k e = grind (arith, nat_tests)
-
 nothing : (p : ℕ → Bool) (t : ℕ) → IsTrue (p t) → IsTrue false → ⊥
 nothing p t h k = cc
 
@@ -68,19 +64,3 @@ pair_sane = (letter_sane, ((64, refl), letter_sane), λ t h k. cc)
 
 pub pairs_sane : Sane pairs
 pairs_sane = (((44, refl), pair_sane, nothing (is 44), refl), ((63, refl), tt), λ t h k. grind (arith, nat_tests))
-
-same_end : (us ws : List ℕ) (x y : ℕ) → us ++ x ∷ [] ≡ ws ++ y ∷ [] → x ≡ y
-same_end [] [] x y e = cc
-same_end [] (w ∷ []) x y e = cc
-same_end [] (w ∷ v ∷ ws) x y e = cc
-same_end (u ∷ []) [] x y e = cc
-same_end (u ∷ v ∷ us) [] x y e = cc
-same_end (u ∷ us) (w ∷ ws) x y e = let rest : us ++ x ∷ [] ≡ ws ++ y ∷ [] = cc in same_end us ws x y rest
-
--- a list that ends with a full stop does not end with a question mark
-pub disjoint : Disjoint letters pairs
-disjoint ts v w (a, (us, xs, cut, here, (x, more, stop, led, (none, unit))), e) (b, (ws, ys, cut', here', (y, more', mark, led', (none', unit'))), f) =
-    let left : ts ≡ us ++ x ∷ [] = cut ∙ ap (λ k. us ++ k) (led ∙ ap (λ k. x ∷ k) none) in
-    let right : ts ≡ ws ++ y ∷ [] = cut' ∙ ap (λ k. ws ++ k) (led' ∙ ap (λ k. y ∷ k) none') in
-    let same : x ≡ y = same_end us ws x y (sym left ∙ right) in
-    apart_marks x y stop mark same

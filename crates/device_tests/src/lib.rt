@@ -1,0 +1,17 @@
+//! Tests of the crates that know nothing of accounts: devices, lists, masks, grammars, and the graph of roles.
+#![tactic(auto)]
+
+#[cfg(test)]
+mod disks;
+#[cfg(test)]
+mod files;
+#[cfg(test)]
+mod lists;
+#[cfg(test)]
+mod masks;
+#[cfg(test)]
+mod pipes;
+#[cfg(test)]
+mod roles;
+#[cfg(test)]
+mod sentences;
