@@ -1,7 +1,7 @@
 -- From a part's fault to the refusal of the statement.
 use Rattle.std.proofs.Common.{◌≡◌, ◌∙◌, List, [], ◌∷◌, ◌++◌, Option, Some, None, Result, Ok, Err, refl, inl}
 use Rattle.std.specs.Result.{IfErr}
-use Rattle.std.proofs.Common.{Bool, true, ◌&&◌, ap, subst, sym}
+use Rattle.std.proofs.Common.{Bool, true, ◌&&◌, not, ap, subst, sym}
 use Rattle.std.proofs.lemmas.Bool.{and_parts}
 use Rattle.acl_names.specs.declared.auth.AuthId.{AuthId}
 use Rattle.acl_names.specs.declared.policy.Verifier.{Verifier}
@@ -12,7 +12,7 @@ use Rattle.revoke_effects.proofs.Listing.{none_of_none}
 use Rattle.acl_apply.specs.Created.{IsCreateCause, IsCrowded}
 use Rattle.acl_model.specs.Effects.{after, changed}
 use Rattle.acl_stmt.specs.Entries.{are_limits_in_order, is_complete, is_entry, may_have_limits}
-use Rattle.acl_stmt.specs.Privileges.{is_no_list}
+use Rattle.acl_stmt.specs.Lists.{is_some_list}
 use Rattle.acl_stmt.specs.Statements.{is_statement}
 use Rattle.acl_stmt.specs.declared.limit.Limit.{Limit}
 use Rattle.acl_stmt.specs.declared.privileges.PrivList.{PrivList}
@@ -52,7 +52,7 @@ fault_refuses state entry wanted same (NoSuchGrant a) is = inl (cc)
 fault_refuses state entry wanted same _ is = absurd is
 
 -- the end of a list is none
-no_list : {A : Type 0} (xs : List A) → is_no_list xs ≡ true → xs ≡ []
+no_list : {A : Type 0} (xs : List A) → not (is_some_list xs) ≡ true → xs ≡ []
 no_list [] none = refl
 no_list (x ∷ xs) none = cc
 
@@ -60,12 +60,12 @@ pub last_of_four : (a b c d : Bool) → (a && b && c && d) ≡ true → d ≡ tr
 last_of_four a b c d all = (and_parts (a && b && c) d all).1
 
 -- only a grant hands restrictions on
-no_limits : (limits : List Limit) (statement : Statement) → may_have_limits limits statement ≡ is_no_list limits → is_entry limits statement ≡ true → limits ≡ []
+no_limits : (limits : List Limit) (statement : Statement) → may_have_limits limits statement ≡ not (is_some_list limits) → is_entry limits statement ≡ true → limits ≡ []
 unfolding is_entry
 no_limits limits statement alone legal =
     no_list limits (sym alone ∙ last_of_four (is_statement statement) (is_complete statement) (are_limits_in_order limits) (may_have_limits limits statement) legal)
 
-after_as : (entry : Entry) (statement : Statement) (before now : State) → entry.statement ≡ statement → may_have_limits entry.limits statement ≡ is_no_list entry.limits
+after_as : (entry : Entry) (statement : Statement) (before now : State) → entry.statement ≡ statement → may_have_limits entry.limits statement ≡ not (is_some_list entry.limits)
     → now ≡ changed [] statement before → now ≡ after entry before
 unfolding after
 after_as entry statement before now is alone same =

@@ -1,6 +1,6 @@
 -- What holds of every line of a script that is taken.
-use Rattle.std.proofs.Common.{◌≡◌, ◌∙◌, ap, sym, ℕ, zero, suc, ◌+◌, ◌<◌, ◌≤◌, ◌^◌, Bool, true, false, not, cond, IsTrue, List, [], ◌∷◌, length, filter, refl, arith}
-use Rattle.std.specs.List.{All, enumerate_from}
+use Rattle.std.proofs.Common.{◌≡◌, ap, ℕ, zero, suc, ◌+◌, ◌<◌, ◌≤◌, ◌^◌, Bool, true, false, not, cond, IsTrue, List, [], ◌∷◌, length, refl, arith}
+use Rattle.std.specs.List.{All}
 use Rattle.std.specs.Str.Lines.{lines as lines_of}
 use Rattle.script_lines.specs.Script.{EachIsLine, IsTaken}
 use Rattle.script_lines.specs.Texts.{command_lines, is_passed_over, numbered}

@@ -5,7 +5,7 @@ use std::alloc::Global;
 use std::test::Fail;
 
 // The call that fails, counted from 0.
-#[derive(Clone, Copy, PartialEq, Eq)]
+#[derive(Clone, Copy)]
 enum Failing {
     Nothing,
     Read(u64),

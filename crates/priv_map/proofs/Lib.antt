@@ -1,5 +1,4 @@
 pub mod Agreement
-pub mod AllLists
 pub mod LimitLists
 pub mod Masks
 pub mod Needs

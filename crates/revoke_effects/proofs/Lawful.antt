@@ -15,8 +15,7 @@ use Rattle.acl_model.specs.Words.{names_dynamic, names_static}
 use Rattle.acl_model.specs.declared.row.Row.{Row}
 use Rattle.acl_model.specs.declared.row.Row.TheVariants.{Account, Global, Dynamic, DynamicGrant, Schema, Table, Column, Function, Procedure, Edge, Admin, Default, Restriction}
 use Rattle.acl_rows.specs.Conditions.{has_its_level, names_stand}
-use Rattle.acl_stmt.specs.Columns.{is_some_list}
-use Rattle.acl_stmt.specs.Privileges.{is_no_list}
+use Rattle.acl_stmt.specs.Lists.{is_some_list}
 use Rattle.acl_stmt.specs.Requests.{all_below, have_levels, is_request}
 use Rattle.acl_stmt.specs.Statements.{is_statement}
 use Rattle.acl_stmt.specs.Targets.{is_table, is_target, level_of}
@@ -71,9 +70,9 @@ unfolding is_statement is_request
 plain_fits privileges target accounts legal =
     let request = and_parts (have_levels privileges target && is_target target) (is_some_list accounts) legal in
     let levels = and_parts (have_levels privileges target) (is_target target) request.0 in
-    let fits = and_parts (all_below 31 (λ number. not (holds privileges.plain number) || has_level (level_of target) number) && (is_no_list privileges.columns || is_table target))
+    let fits = and_parts (all_below 31 (λ number. not (holds privileges.plain number) || has_level (level_of target) number) && (not (is_some_list privileges.columns) || is_table target))
     (privileges.dynamic == 0 || is_global_level (level_of target)) levels.0 in
-    (and_parts (all_below 31 (λ number. not (holds privileges.plain number) || has_level (level_of target) number)) (is_no_list privileges.columns || is_table target) fits.0).0
+    (and_parts (all_below 31 (λ number. not (holds privileges.plain number) || has_level (level_of target) number)) (not (is_some_list privileges.columns) || is_table target) fits.0).0
 
 -- a privilege that is named has the level of the target
 named_fits : (privileges : PrivList) (target : Target) (accounts : List AuthId) (p : ℕ) → is_statement (Revoke privileges target accounts) ≡ true

@@ -1,19 +1,17 @@
 -- Lists of rows and of accounts.
-use Rattle.std.proofs.Common.{◌≡◌, ◌∙◌, ap, sym, subst, ℕ, zero, suc, ◌<◌, ◌+◌, Bool, true, false, cond, ◌&&◌, ◌||◌, List, [], ◌∷◌, ◌++◌, filter, get_or, length, nat_lt, take, refl, arith, add-one}
-use Rattle.std.proofs.Math.Bool.{and-false, or-false}
+use Rattle.std.proofs.Common.{◌≡◌, ◌∙◌, ap, sym, subst, ℕ, ◌<◌, ◌+◌, Bool, true, false, ◌&&◌, ◌||◌, List, [], ◌∷◌, ◌++◌, get_or, length, take, refl, add-one}
+use Rattle.std.proofs.Math.Bool.{or-false}
 use Rattle.std.proofs.Math.Seq.{take-suc}
-use Rattle.std.proofs.lemmas.Bool.{and_from, and_parts, ltb-false, ltb-true, or_left, or_right}
+use Rattle.std.proofs.lemmas.Bool.{and_from, and_parts}
 use Rattle.std.proofs.lemmas.List.Folds.{list_any-append}
 use Rattle.std.specs.List.{list_any}
 use Rattle.acl_names.proofs.SameAuth.{equal_from_same_auth, same_auth_itself}
 use Rattle.acl_names.specs.AuthId.{same_auth}
 use Rattle.acl_names.specs.declared.auth.AuthId.{AuthId}
-use Rattle.acl_model.proofs.SameRows.{equal_from_same_row, same_row_itself}
 use Rattle.acl_model.specs.Firsts.{HasNone}
 use Rattle.acl_model.specs.Rows.{holder, lists, same_row}
 use Rattle.acl_model.specs.declared.row.Row.{Row}
 use Rattle.acl_rows.proofs.RowLists.{some_row}
-use Rattle.acl_stmt.specs.Requests.{all_below}
 
 -- one account more
 pub lists_more : (accounts : List AuthId) (i : ℕ) (account a : AuthId) → i < length accounts → account ≡ get_or accounts i account

@@ -1,4 +1,4 @@
-use Rattle.std.proofs.Common.{◌∙◌, ap, sym, subst, IsTrue}
+use Rattle.std.proofs.Common.{◌∙◌, sym, subst, IsTrue}
 use Rattle.acl_program.proofs.Due.{due_read, due_refused, refusal_is_not_fine}
 use Rattle.acl_program.proofs.Taken.{command_rules, each_line, lines_count}
 use Rattle.acl_program.specs.Endings.{IsDue}

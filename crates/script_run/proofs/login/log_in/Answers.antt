@@ -15,5 +15,5 @@ returns-clause-entered c =
       account = ap (λ (a : Acting). a.account) c.new-2.ensures.acting ∙ c.in_ok-acting.ensures.account;
       current = ap current_of c.new-2.ensures.acting ∙ ap (option_map (λ held. held.schema)) c.in_ok-acting.ensures.current;
       points = c.new-2.ensures.points ∙ (λ i. record { global = c.length.ensures i; schema = c.length.ensures i });
-      stands = c.new-2.ensures.read entries (omega (arith, c.length.ensures)) read;
+      sound = c.new-2.ensures.read entries (omega (arith, c.length.ensures)) read;
     }
