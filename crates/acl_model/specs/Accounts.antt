@@ -3,11 +3,12 @@
 use Rattle.std.specs.Prelude.{Bool, true, false, ◌&&◌, not, List, [], ◌∷◌, Option, Some, None, if◌then◌else◌}
 use Rattle.std.specs.Option.{option_map}
 use Rattle.acl_names.specs.AuthId.{same_auth}
+use Rattle.acl_names.specs.Verifiers.{empty_verifier}
 use Rattle.acl_names.specs.declared.auth.AuthId.{AuthId}
 use Rattle.acl_names.specs.declared.policy.Verifier.{Verifier}
 use Rattle.acl_model.specs.Renames.{name_before}
 use Rattle.acl_model.specs.Rows.{lists}
-use Rattle.acl_model.specs.State.{State, empty_verifier, no_policy, stands}
+use Rattle.acl_model.specs.State.{State, no_policy, stands}
 use Rattle.acl_model.specs.declared.account_data.AccountData.{AccountData}
 use Rattle.acl_stmt.specs.declared.options.AccountOptions.{AccountOptions}
 use Rattle.acl_stmt.specs.declared.statement.Statement.{Statement}

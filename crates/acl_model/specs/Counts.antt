@@ -8,10 +8,9 @@ use Rattle.acl_model.specs.Rows.{same_row}
 use Rattle.acl_model.specs.State.{State, stands}
 use Rattle.acl_model.specs.declared.row.Row.{Row}
 use Rattle.acl_model.specs.declared.row.Row.TheVariants.{Column, Default, Edge, Function, Procedure, Restriction, Schema, Table}
+use Rattle.acl_stmt.specs.Lists.{all_differ_by}
 use Rattle.acl_stmt.specs.declared.refusal.Full.{Full}
 use Rattle.acl_stmt.specs.declared.refusal.Full.TheVariants as full
-
-pub use Rattle.acl_stmt.specs.Lists.{all_differ_by}
 
 -- a list with each item of a set once, and no other
 pub record ListsEachOnce {X : Type 0} (same : X → X → Bool) (P : X → Type 0) (items : List X) : Type 0 where

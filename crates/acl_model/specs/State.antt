@@ -5,12 +5,11 @@ use Rattle.acl_names.specs.AuthId.{same_auth}
 use Rattle.acl_names.specs.declared.auth.AuthId.{AuthId}
 use Rattle.acl_names.specs.declared.policy.LockTime.TheVariants.{Days}
 use Rattle.acl_names.specs.declared.policy.Policy.{Policy}
+use Rattle.acl_names.specs.Verifiers.{empty_verifier}
 use Rattle.acl_model.specs.Rows.{lists}
 use Rattle.acl_model.specs.declared.account_data.AccountData.{AccountData}
 use Rattle.acl_model.specs.declared.row.Row.{Row}
 use Rattle.acl_model.specs.declared.row.Row.TheVariants.{Account, Global, Dynamic, DynamicGrant}
-
-pub use Rattle.acl_names.specs.Verifiers.{empty_verifier}
 
 pub record State : Type 0 where
   -- whether a row stands

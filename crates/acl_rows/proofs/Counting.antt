@@ -2,7 +2,8 @@
 use Rattle.std.proofs.Common.{◌≡◌, ◌∙◌, ap, sym, ℕ, suc, ◌<◌, ◌≤◌, Bool, true, false, cond, not, ◌||◌, List, [], ◌∷◌, length, refl, nat_lt, MatchBool, arith}
 use Rattle.std.proofs.lemmas.Bool.{and_parts, ltb-false, ltb-true, not-true, or_left, or_right}
 use Rattle.std.specs.List.{list_any}
-use Rattle.acl_model.specs.Counts.{HasMoreThan, ListsEachOnce, all_differ_by}
+use Rattle.acl_model.specs.Counts.{HasMoreThan, ListsEachOnce}
+use Rattle.acl_stmt.specs.Lists.{all_differ_by}
 
 module _ {X : Type 0} (same : X → X → Bool) (equal : (a b : X) → same a b ≡ true → a ≡ b) (itself : (a : X) → same a a ≡ true) where
   without : X → List X → List X

@@ -5,10 +5,10 @@ use Rattle.std.proofs.lemmas.Bool.{and_from, and_parts, or_from, or_parts, not-t
 use Rattle.std.specs.List.{list_any}
 use Rattle.acl_names.specs.AuthId.{same_auth}
 use Rattle.acl_names.specs.declared.auth.AuthId.{AuthId}
-use Rattle.acl_model.specs.Counts.{all_differ_by}
 use Rattle.acl_model.specs.declared.account_data.AccountData.{AccountData}
 use Rattle.acl_rows.specs.Tables.{has_account, names_of}
 use Rattle.acl_rows.proofs.States.{differ_back}
+use Rattle.acl_stmt.specs.Lists.{all_differ_by}
 
 abbrev pub differ : List (AuthId × AccountData) → Bool
 differ accounts = all_differ_by same_auth (names_of accounts)

@@ -9,7 +9,7 @@ use Rattle.acl_names.specs.AuthId.{same_auth}
 use Rattle.acl_names.specs.Text.{text_eq}
 use Rattle.acl_names.specs.declared.auth.AuthId.{AuthId}
 use Rattle.acl_model.proofs.SameRows.{equal_from_same_row, same_row_from_equal, same_row_itself}
-use Rattle.acl_model.specs.Counts.{HasMoreThan, IsEdgeInUse, IsObjectInUse, IsPairInUse, IsSchemaInUse, ListsEachOnce, all_differ_by, same_pair}
+use Rattle.acl_model.specs.Counts.{HasMoreThan, IsEdgeInUse, IsObjectInUse, IsPairInUse, IsSchemaInUse, ListsEachOnce, same_pair}
 use Rattle.acl_model.specs.Rows.{same_row}
 use Rattle.acl_model.specs.declared.row.Row.{Row}
 use Rattle.acl_model.specs.declared.row.Row.TheVariants.{Schema, Table, Column, Function, Procedure, Edge, Default, Restriction}
@@ -17,6 +17,7 @@ use Rattle.acl_rows.specs.Tables.{Tables, state_of}
 use Rattle.acl_rows.proofs.Counting.{is_over_limit}
 use Rattle.acl_rows.proofs.RowLists.{passing_row, some_row}
 use Rattle.acl_rows.specs.Uses.{distinct, edge_of, noted, object_of, pair_of, schema_of}
+use Rattle.acl_stmt.specs.Lists.{all_differ_by}
 
 abbrev is_key : {X : Type 0} → (X → X → Bool) → Option X → X → Bool
 is_key same None k = false

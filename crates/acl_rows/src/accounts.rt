@@ -3,7 +3,7 @@ ghost use Rattle.std.specs.Prelude.{◌≡◌, ◌∷◌, ◌++◌, [], not, fil
 ghost use Rattle.std.specs.Option.{option_copied};
 ghost use Rattle.acl_names.specs.AuthId.{same_auth};
 ghost use Rattle.acl_model.specs.Accounts.{new_account as new_data};
-ghost use Rattle.acl_model.specs.State.{empty_verifier as no_password};
+ghost use Rattle.acl_names.specs.Verifiers.{empty_verifier as no_password};
 ghost use Rattle.acl_rows.specs.Renaming.{change_first};
 ghost use Rattle.acl_rows.specs.Tables.{data_of, has_account, names_of};
 

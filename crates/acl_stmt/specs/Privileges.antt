@@ -11,9 +11,6 @@ are_in_order [] = true
 are_in_order (first ∷ []) = true
 are_in_order (first ∷ second ∷ rest) = nat_lt first.privilege second.privilege && are_in_order (second ∷ rest)
 
-abbrev pub is_no_list : {A : Type 0} → List A → Bool
-is_no_list items = not (is_some_list items)
-
 -- privileges that exist, columns in order, and nothing beside ALL
 unfoldable pub is_priv_list : Bool → Static → List ColumnPriv → ℕ → Bool
 is_priv_list all plain columns dynamic =

@@ -3,7 +3,7 @@ use Rattle.std.proofs.Common.{◌≡◌, ℕ, Bool, true, false, cond, List, [],
 use Rattle.std.specs.Cmp.{second_so}
 use Rattle.std.specs.Prelude.{IsTrue, codes}
 use Rattle.acl_names.specs.declared.auth.AuthId.{AuthId}
-use Rattle.acl_stmt.specs.Columns.{is_some_list}
+use Rattle.acl_stmt.specs.Lists.{is_some_list}
 use Rattle.acl_stmt.specs.Statements.{are_options, is_statement}
 use Rattle.acl_stmt.specs.declared.roles.DefaultForm.{DefaultForm}
 use Rattle.acl_stmt.specs.declared.roles.DefaultForm.TheVariants as form

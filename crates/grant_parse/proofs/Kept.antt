@@ -2,7 +2,7 @@
 use Rattle.std.proofs.Common.{◌≡◌, ◌⊎◌, ◌<◌, ◌≤◌, ◌^◌, ◌+◌, ℕ, IsTrue, List, length, length-append, inl, inr, ◌∙◌, ap, arith}
 use Rattle.std.proofs.lemmas.List.{length-map}
 use Rattle.acl_grammar.specs.Spelling.{spells}
-use Rattle.acl_stmt.specs.Columns.{is_some_list}
+use Rattle.acl_stmt.specs.Lists.{is_some_list}
 use Rattle.acl_stmt.specs.Statements.{is_statement}
 use Rattle.acl_stmt.specs.declared.statement.Statement.{Statement}
 use Rattle.acl_stmt.specs.declared.target.Target.{Target}

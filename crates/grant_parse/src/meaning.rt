@@ -2,7 +2,7 @@
 
 ghost use Rattle.std.specs.Prelude.{◌≡◌, ◌<◌, ◌^◌, None, IfErr, IfOk, IsTrue, OnOk};
 ghost use mathlib.Core.Logic.{inr};
-ghost use Rattle.acl_stmt.specs.Columns.{is_some_list};
+ghost use Rattle.acl_stmt.specs.Lists.{is_some_list};
 ghost use Rattle.acl_stmt.specs.Statements.{is_statement};
 ghost use Rattle.grant_parse.specs.Meaning.{IsLevelFault, MeansRequest, MeansStatement, accounts_of, level_fault, refusal_from, request_fault};
 ghost use Rattle.priv_items.specs.LevelRefusals.{wrong_level};

@@ -4,10 +4,10 @@ use Rattle.std.proofs.lemmas.Bool.{and_from, and_parts, not_from_false, not-true
 use Rattle.std.proofs.lemmas.List.Elements.{filter_agree}
 use Rattle.std.proofs.lemmas.List.Folds.{list_any-append}
 use Rattle.std.specs.List.{list_all, list_any}
+use Rattle.acl_stmt.specs.Lists.{all_differ_by}
 use Rattle.indexmap.specs.IndexSet.{insert_all}
 use Rattle.acl_names.proofs.SameAuth.{equal_from_text_eq}
 use Rattle.acl_names.specs.Text.{text_eq}
-use Rattle.acl_stmt.specs.Columns.{all_differ}
 use Rattle.priv_items.specs.Meaning.{each_once}
 
 pub text_eq-swap : (x y : List ℕ) → text_eq x y ≡ text_eq y x
@@ -92,14 +92,14 @@ list_all-filter test p (x ∷ xs) every =
       | false ↦ list_all-filter test p xs parts.1
     ]
 
-all_differ-filter : (p : List ℕ → Bool) (texts : List (List ℕ)) → all_differ texts ≡ true → all_differ (filter p texts) ≡ true
+all_differ-filter : (p : List ℕ → Bool) (texts : List (List ℕ)) → all_differ_by text_eq texts ≡ true → all_differ_by text_eq (filter p texts) ≡ true
 all_differ-filter p [] differ = refl
 all_differ-filter p (x ∷ xs) differ =
-    let parts = and_parts (not (list_any (text_eq x) xs)) (all_differ xs) differ in
+    let parts = and_parts (not (list_any (text_eq x) xs)) (all_differ_by text_eq xs) differ in
     let first = not_from_false (list_any (text_eq x) (filter p xs)) (any_none-filter (text_eq x) p xs (not-true (list_any (text_eq x) xs) parts.0)) in
     let rest = all_differ-filter p xs parts.1 in
-    elim (p x) as (λ t. all_differ (cond t (x ∷ filter p xs) (filter p xs)) ≡ true) [
-      | true ↦ and_from (not (list_any (text_eq x) (filter p xs))) (all_differ (filter p xs)) first rest
+    elim (p x) as (λ t. all_differ_by text_eq (cond t (x ∷ filter p xs) (filter p xs)) ≡ true) [
+      | true ↦ and_from (not (list_any (text_eq x) (filter p xs))) (all_differ_by text_eq (filter p xs)) first rest
       | false ↦ rest
     ]
 
@@ -111,10 +111,10 @@ none_after x (y ∷ ys) = by (none_after x ys) (text_eq y x) refl
     by rest true p = rest
     by rest false p = or_from (text_eq x y) (list_any (text_eq x) (filter (is_other x) ys)) (text_eq-swap x y ∙ p) rest
 
-pub all_differ-each_once : (texts : List (List ℕ)) → all_differ (each_once texts) ≡ true
+pub all_differ-each_once : (texts : List (List ℕ)) → all_differ_by text_eq (each_once texts) ≡ true
 all_differ-each_once [] = refl
 all_differ-each_once (x ∷ xs) =
-    and_from (not (list_any (text_eq x) (filter (is_other x) (each_once xs)))) (all_differ (filter (is_other x) (each_once xs)))
+    and_from (not (list_any (text_eq x) (filter (is_other x) (each_once xs)))) (all_differ_by text_eq (filter (is_other x) (each_once xs)))
     (not_from_false (list_any (text_eq x) (filter (is_other x) (each_once xs))) (none_after x (each_once xs)))
     (all_differ-filter (is_other x) (each_once xs) (all_differ-each_once xs))
 
@@ -146,9 +146,9 @@ filter_none x (y ∷ ys) none =
     ∙ ap (λ rest. y ∷ rest) (filter_none x ys parts.1)
 
 -- texts that differ stay
-pub each_once-differ : (texts : List (List ℕ)) → all_differ texts ≡ true → each_once texts ≡ texts
+pub each_once-differ : (texts : List (List ℕ)) → all_differ_by text_eq texts ≡ true → each_once texts ≡ texts
 each_once-differ [] differ = refl
 each_once-differ (x ∷ xs) differ =
-    let parts = and_parts (not (list_any (text_eq x) xs)) (all_differ xs) differ in
+    let parts = and_parts (not (list_any (text_eq x) xs)) (all_differ_by text_eq xs) differ in
     ap (λ rest. x ∷ filter (is_other x) rest) (each_once-differ xs parts.1)
     ∙ ap (λ rest. x ∷ rest) (filter_none x xs (not-true (list_any (text_eq x) xs) parts.0))

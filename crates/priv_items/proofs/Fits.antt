@@ -5,8 +5,8 @@ use Rattle.std.specs.Int.{bit_at}
 use Rattle.std.specs.List.{filter, list_all}
 use Rattle.std.specs.Prelude.{Option, Some, None}
 use Rattle.acl_names.proofs.LowerTexts.{lowered_is_lower}
-use Rattle.acl_stmt.specs.Columns.{is_column_list, is_some_list}
-use Rattle.acl_stmt.specs.Privileges.{is_no_list}
+use Rattle.acl_stmt.specs.Columns.{is_column_list}
+use Rattle.acl_stmt.specs.Lists.{is_some_list}
 use Rattle.acl_stmt.specs.Requests.{all_below, have_levels, is_request}
 use Rattle.acl_stmt.specs.Targets.{is_table, is_target, level_of}
 use Rattle.acl_stmt.specs.declared.columns.ColumnPriv.{ColumnPriv}
@@ -102,7 +102,7 @@ some_names listed =
     let parts = and_parts _ _ (and_parts _ _ (and_parts _ _ (and_parts _ _ listed.listed).0).0).0 in
     parts.1
 
-pub no_lists : (lists : List ColumnPriv) → ((q : ℕ) → columns_on lists q ≡ []) → is_no_list lists ≡ true
+pub no_lists : (lists : List ColumnPriv) → ((q : ℕ) → columns_on lists q ≡ []) → not (is_some_list lists) ≡ true
 no_lists [] none = refl
 no_lists (x ∷ xs) none =
     absurd (is_empty_from x.names (columns_on xs x.privilege) (some_names x) (sym (λ i. (if eq-eqb x.privilege x.privilege refl i then x.names else []) ++ columns_on xs x.privilege) ∙ none x.privilege))
@@ -137,8 +137,8 @@ not_true : (a : Bool) → (a ≡ true → ⊥) → a ≡ false
 not_true true never = absurd (never refl)
 not_true false never = refl
 
-columns_or_table : (lists : List ColumnPriv) (table : Bool) → (table ≡ false → (q : ℕ) → columns_on lists q ≡ []) → (is_no_list lists || table) ≡ true
-columns_or_table lists true none = or_right (is_no_list lists) true refl
+columns_or_table : (lists : List ColumnPriv) (table : Bool) → (table ≡ false → (q : ℕ) → columns_on lists q ≡ []) → (not (is_some_list lists) || table) ≡ true
+columns_or_table lists true none = or_right (not (is_some_list lists)) true refl
 columns_or_table lists false none = ap (λ empty. empty || false) (no_lists lists (none refl))
 
 dynamic_or_global : (dynamic : ℕ) (global : Bool) → (global ≡ false → (q : ℕ) → (bit_at dynamic q == 1) ≡ false) → (dynamic == 0 || global) ≡ true
@@ -155,6 +155,6 @@ request_from_meant named target list meant none =
     let dynamic = dynamic_or_global list.dynamic (is_global_level (level_of (lowered_target target)))
     (λ other q. meant.dynamic q ∙ not_true (names_dynamic items q) (λ held. true≢false (sym (ap is_global_level (lowered_level target) ∙ dynamic_fits target items q none held) ∙ other))) in
     and_from (have_levels list (lowered_target target)) (is_target (lowered_target target))
-    (and_from (all_below 31 (λ q. not (holds list.plain q) || has_level (level_of (lowered_target target)) q) && (is_no_list list.columns || is_table (lowered_target target))) _
+    (and_from (all_below 31 (λ q. not (holds list.plain q) || has_level (level_of (lowered_target target)) q) && (not (is_some_list list.columns) || is_table (lowered_target target))) _
     (and_from (all_below 31 (λ q. not (holds list.plain q) || has_level (level_of (lowered_target target)) q)) _ (all_from 31 _ plain) columns) dynamic)
     (lowered_is_target target)

@@ -3,7 +3,8 @@ use Rattle.std.proofs.Common.{◌≡◌, ◌∙◌, refl, ap, ℕ, ◌<◌, ◌^
 use Rattle.std.proofs.lemmas.Bool.{and_from, and_parts, and_right, eq-eqb, eqb-true, lt-ltb}
 use Rattle.std.specs.Int.{bit_at}
 use Rattle.std.specs.Prelude.{nat_lt}
-use Rattle.acl_stmt.specs.Privileges.{are_in_order, is_no_list, is_priv_list}
+use Rattle.acl_stmt.specs.Lists.{is_some_list}
+use Rattle.acl_stmt.specs.Privileges.{are_in_order, is_priv_list}
 use Rattle.acl_stmt.specs.declared.columns.ColumnPriv.{ColumnPriv}
 use Rattle.priv_sets.proofs.Bits.{empty_from_none, zero_bits}
 use Rattle.priv_sets.specs.Levels.{grant_option}
@@ -11,10 +12,10 @@ use Rattle.priv_sets.specs.StaticSet.{bits_of, holds, is_known}
 use Rattle.priv_sets.specs.declared.static_set.Static.{Static}
 
 from_parts : (all : Bool) (plain : Static) (columns : List ColumnPriv) (dynamic : ℕ) → is_known plain ≡ true → nat_lt dynamic (2 ^ 20) ≡ true → are_in_order columns ≡ true
-    → (not all || bits_of plain == 0 && is_no_list columns && dynamic == 0) ≡ true → is_priv_list all plain columns dynamic ≡ true
+    → (not all || bits_of plain == 0 && not (is_some_list columns) && dynamic == 0) ≡ true → is_priv_list all plain columns dynamic ≡ true
 unfolding is_priv_list
 from_parts all plain columns dynamic known below order alone =
-    and_from (is_known plain && nat_lt dynamic (2 ^ 20) && are_in_order columns) (not all || bits_of plain == 0 && is_no_list columns && dynamic == 0)
+    and_from (is_known plain && nat_lt dynamic (2 ^ 20) && are_in_order columns) (not all || bits_of plain == 0 && not (is_some_list columns) && dynamic == 0)
     (and_from (is_known plain && nat_lt dynamic (2 ^ 20)) (are_in_order columns) (and_from (is_known plain) (nat_lt dynamic (2 ^ 20)) known below) order) alone
 
 -- a set that holds nothing has no bit
@@ -37,25 +38,25 @@ all_alone plain known none =
 
 -- the same list with a set of fewer privileges
 still_alone : (all : Bool) (plain less : Static) (columns : List ColumnPriv) (dynamic : ℕ) → ((q : ℕ) → holds less q ≡ (not (q == grant_option) && holds plain q))
-    → (not all || bits_of plain == 0 && is_no_list columns && dynamic == 0) ≡ true → (not all || bits_of less == 0 && is_no_list columns && dynamic == 0) ≡ true
+    → (not all || bits_of plain == 0 && not (is_some_list columns) && dynamic == 0) ≡ true → (not all || bits_of less == 0 && not (is_some_list columns) && dynamic == 0) ≡ true
 still_alone false plain less columns dynamic fewer alone = refl
 still_alone true plain less columns dynamic fewer alone =
-    let outer = and_parts (bits_of plain == 0 && is_no_list columns) (dynamic == 0) alone in
-    let inner = and_parts (bits_of plain == 0) (is_no_list columns) outer.0 in
+    let outer = and_parts (bits_of plain == 0 && not (is_some_list columns)) (dynamic == 0) alone in
+    let inner = and_parts (bits_of plain == 0) (not (is_some_list columns)) outer.0 in
     let none : (q : ℕ) → holds less q ≡ false = λ q. fewer q ∙ and_right (not (q == grant_option)) (holds plain q) (no_bits plain q (eqb-true (bits_of plain) 0 inner.0)) in
-    and_from (bits_of less == 0 && is_no_list columns) (dynamic == 0) (and_from (bits_of less == 0) (is_no_list columns) (eq-eqb (bits_of less) 0 (empty_bits less none)) inner.1) outer.1
+    and_from (bits_of less == 0 && not (is_some_list columns)) (dynamic == 0) (and_from (bits_of less == 0) (not (is_some_list columns)) (eq-eqb (bits_of less) 0 (empty_bits less none)) inner.1) outer.1
 
 -- what the rules say
 pub record Rules (all : Bool) (plain : Static) (columns : List ColumnPriv) (dynamic : ℕ) : Type 0 where
   pub known : is_known plain ≡ true
   pub below : nat_lt dynamic (2 ^ 20) ≡ true
   pub order : are_in_order columns ≡ true
-  pub alone : (not all || bits_of plain == 0 && is_no_list columns && dynamic == 0) ≡ true
+  pub alone : (not all || bits_of plain == 0 && not (is_some_list columns) && dynamic == 0) ≡ true
 
 pub rules_of : (all : Bool) (plain : Static) (columns : List ColumnPriv) (dynamic : ℕ) → is_priv_list all plain columns dynamic ≡ true → Rules all plain columns dynamic
 unfolding is_priv_list
 rules_of all plain columns dynamic rules =
-    let outer = and_parts (is_known plain && nat_lt dynamic (2 ^ 20) && are_in_order columns) (not all || bits_of plain == 0 && is_no_list columns && dynamic == 0) rules in
+    let outer = and_parts (is_known plain && nat_lt dynamic (2 ^ 20) && are_in_order columns) (not all || bits_of plain == 0 && not (is_some_list columns) && dynamic == 0) rules in
     let middle = and_parts (is_known plain && nat_lt dynamic (2 ^ 20)) (are_in_order columns) outer.0 in
     let inner = and_parts (is_known plain) (nat_lt dynamic (2 ^ 20)) middle.0 in
     record { known = inner.0; below = inner.1; order = middle.1; alone = outer.1 }

@@ -10,8 +10,9 @@ use Rattle.std.specs.List.{list_all}
 use Rattle.std.specs.Prelude.{nat_lt}
 use Rattle.std.specs.Str.{str_to_ascii_lowercase}
 use Rattle.acl_names.proofs.LowerTexts.{lowered_is_lower}
-use Rattle.acl_names.specs.Text.{is_lower}
-use Rattle.acl_stmt.specs.Columns.{all_differ, is_column_list, is_some_list}
+use Rattle.acl_names.specs.Text.{is_lower, text_eq}
+use Rattle.acl_stmt.specs.Columns.{is_column_list}
+use Rattle.acl_stmt.specs.Lists.{all_differ_by, is_some_list}
 use Rattle.acl_stmt.specs.declared.columns.ColumnPriv.{ColumnPriv}
 use Rattle.priv_sets.specs.Levels.{has_level}
 use Rattle.priv_sets.specs.declared.level.Level.TheVariants.{Column}
@@ -96,7 +97,7 @@ listed_columns items number may few some =
     let fits = lt-ltb (length names) (2 ^ 32) (omega arith) in
     let lower = list_all-each_once is_lower (columns_of items number) (lower-columns_of items number) in
     let differ = all_differ-each_once (columns_of items number) in
-    and_from (has_level Column number && is_some_list names && nat_lt (length names) (2 ^ 32) && list_all is_lower names) (all_differ names)
+    and_from (has_level Column number && is_some_list names && nat_lt (length names) (2 ^ 32) && list_all is_lower names) (all_differ_by text_eq names)
     (and_from (has_level Column number && is_some_list names && nat_lt (length names) (2 ^ 32)) (list_all is_lower names)
     (and_from (has_level Column number && is_some_list names) (nat_lt (length names) (2 ^ 32)) (and_from (has_level Column number) (is_some_list names) level nonempty) fits)
     lower)

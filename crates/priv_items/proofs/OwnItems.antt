@@ -9,9 +9,10 @@ use Rattle.std.specs.List.{flat_map, list_all, list_any}
 use Rattle.std.specs.Prelude.{nat_lt}
 use Rattle.std.specs.Str.{str_to_ascii_lowercase}
 use Rattle.acl_names.proofs.SameAuth.{equal_from_text_eq}
-use Rattle.acl_names.specs.Text.{is_lower}
-use Rattle.acl_stmt.specs.Columns.{all_differ, is_column_list}
-use Rattle.acl_stmt.specs.Privileges.{are_in_order, is_no_list}
+use Rattle.acl_names.specs.Text.{is_lower, text_eq}
+use Rattle.acl_stmt.specs.Columns.{is_column_list}
+use Rattle.acl_stmt.specs.Lists.{all_differ_by, is_some_list}
+use Rattle.acl_stmt.specs.Privileges.{are_in_order}
 use Rattle.acl_stmt.specs.declared.columns.ColumnPriv.{ColumnPriv}
 use Rattle.acl_stmt.specs.declared.privileges.PrivList.{PrivList}
 use Rattle.priv_sets.proofs.Bits.{zero_bits}
@@ -34,7 +35,7 @@ use Rattle.priv_items.specs.declared.item.Named.TheVariants.{All, Listed}
 pub record ColumnRules (listed : ColumnPriv) : Type 0 where
   pub level : has_level Column listed.privilege ≡ true
   pub lower : list_all is_lower listed.names ≡ true
-  pub differ : all_differ listed.names ≡ true
+  pub differ : all_differ_by text_eq listed.names ≡ true
 
 pub column_rules : (listed : ColumnPriv) → ColumnRules listed
 unfolding is_column_list
@@ -255,25 +256,25 @@ columns_within_all lists q =
     ]
 
 -- the columns of one privilege differ
-columns_differ : (lists : List ColumnPriv) (q : ℕ) → are_in_order lists ≡ true → all_differ (columns_on lists q) ≡ true
+columns_differ : (lists : List ColumnPriv) (q : ℕ) → are_in_order lists ≡ true → all_differ_by text_eq (columns_on lists q) ≡ true
 columns_differ [] q order = refl
 columns_differ (x ∷ xs) q order =
     elim (cases_eq q x.privilege) [
-      | inl same ↦ ap all_differ (ap (columns_on (x ∷ xs)) same ∙ own_columns x xs order) ∙ (column_rules x).differ
-      | inr other ↦ ap all_differ (other_columns x xs q other) ∙ columns_differ xs q (order_rest x xs order)
+      | inl same ↦ ap (all_differ_by text_eq) (ap (columns_on (x ∷ xs)) same ∙ own_columns x xs order) ∙ (column_rules x).differ
+      | inr other ↦ ap (all_differ_by text_eq) (other_columns x xs q other) ∙ columns_differ xs q (order_rest x xs order)
     ]
 
-no_lists_from : (lists : List ColumnPriv) → is_no_list lists ≡ true → lists ≡ []
+no_lists_from : (lists : List ColumnPriv) → not (is_some_list lists) ≡ true → lists ≡ []
 no_lists_from [] none = refl
 no_lists_from (x ∷ xs) none = absurd (true≢false (sym none))
 
 own_all : (list : PrivList) → list.all ≡ true → IsMeant All list
 own_all list all =
     let rules = rules_of list.all list.plain list.columns list.dynamic list.listed in
-    let alone : (bits_of list.plain == 0 && is_no_list list.columns && list.dynamic == 0) ≡ true =
-    sym (ap (λ all. not all || bits_of list.plain == 0 && is_no_list list.columns && list.dynamic == 0) all) ∙ rules.alone in
-    let outer = and_parts (bits_of list.plain == 0 && is_no_list list.columns) (list.dynamic == 0) alone in
-    let inner = and_parts (bits_of list.plain == 0) (is_no_list list.columns) outer.0 in
+    let alone : (bits_of list.plain == 0 && not (is_some_list list.columns) && list.dynamic == 0) ≡ true =
+    sym (ap (λ all. not all || bits_of list.plain == 0 && not (is_some_list list.columns) && list.dynamic == 0) all) ∙ rules.alone in
+    let outer = and_parts (bits_of list.plain == 0 && not (is_some_list list.columns)) (list.dynamic == 0) alone in
+    let inner = and_parts (bits_of list.plain == 0) (not (is_some_list list.columns)) outer.0 in
     record {
       all = all;
       plain = λ q. no_bits list.plain q (eqb-true (bits_of list.plain) 0 inner.0);

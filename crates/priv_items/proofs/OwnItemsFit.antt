@@ -5,7 +5,7 @@ use Rattle.std.specs.Int.{bit_at}
 use Rattle.std.specs.List.{flat_map}
 use Rattle.std.specs.Prelude.{None}
 use Rattle.acl_names.proofs.SameAuth.{equal_from_text_eq}
-use Rattle.acl_stmt.specs.Privileges.{is_no_list}
+use Rattle.acl_stmt.specs.Lists.{is_some_list}
 use Rattle.acl_stmt.specs.Requests.{all_below, have_levels, is_request}
 use Rattle.acl_stmt.specs.Targets.{is_table, is_target, level_of}
 use Rattle.acl_stmt.specs.declared.columns.ColumnPriv.{ColumnPriv}
@@ -62,10 +62,10 @@ column_item_fits target x true table =
     ap (λ granted. or_else (unless granted (privilege.Plain x.privilege)) None) (and_from (has_level Column x.privilege) (is_table target) (column_rules x).level table)
 column_item_fits target x false table = refl
 
-columns_items_fit : (target : Target) (n : ℕ) (lists : List ColumnPriv) → (is_no_list lists || is_table target) ≡ true → first_wrong target (flat_map (columns_at item_itself n) lists) ≡ None
+columns_items_fit : (target : Target) (n : ℕ) (lists : List ColumnPriv) → (not (is_some_list lists) || is_table target) ≡ true → first_wrong target (flat_map (columns_at item_itself n) lists) ≡ None
 columns_items_fit target n [] table = refl
 columns_items_fit target n (x ∷ xs) table =
-    both_fit target (columns_at item_itself n x) (flat_map (columns_at item_itself n) xs) (column_item_fits target x (n == x.privilege) table) (columns_items_fit target n xs (ap (λ t. is_no_list xs || t) table ∙ or_right (is_no_list xs) true refl))
+    both_fit target (columns_at item_itself n x) (flat_map (columns_at item_itself n) xs) (column_item_fits target x (n == x.privilege) table) (columns_items_fit target n xs (ap (λ t. not (is_some_list xs) || t) table ∙ or_right (not (is_some_list xs)) true refl))
 
 dynamic_item_fits : (target : Target) (n : ℕ) (dynamic : ℕ) → (dynamic == 0 || is_global_level (level_of target)) ≡ true → first_wrong target (member_if (bit_at dynamic n == 1) (Dynamic n)) ≡ None
 dynamic_item_fits target n dynamic level = by (bit_at dynamic n == 1) (dynamic == 0) refl refl level

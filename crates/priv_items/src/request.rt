@@ -77,7 +77,7 @@ pub fn granted_of(
     ensures err { IfErr result (IsLevelRefusal (wrong_level named.now target)) }
 {
     let Request { privileges, target } = request_of(alloc, named, target)?;
-    let option = Plain::new(30);
+    let option = Plain::grant_option();
     Ok(Granted {
         with_grant_option: with_grant_option || privileges.plain.has(option),
         privileges: PrivList {

@@ -43,7 +43,7 @@ impl Rule<Lexeme> for NamedItem {
         if let Ok(rest) = expect(&Keyword("GRANT"), tokens) {
             let rest = expect(&Keyword("OPTION"), rest)?;
             return Ok(Found {
-                value: Item::Plain(Plain::new(30)),
+                value: Item::Plain(Plain::grant_option()),
                 rest,
             });
         }

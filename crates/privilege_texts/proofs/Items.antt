@@ -4,7 +4,7 @@ use Rattle.std.proofs.lemmas.Bool.{cases_lt, eqb-true, or_cases, true≢false}
 use Rattle.std.specs.List.{flat_map, list_all}
 use Rattle.std.specs.Prelude.{Some, codes}
 use Rattle.acl_grammar.specs.Spelling.{spells}
-use Rattle.acl_stmt.specs.Columns.{is_some_list}
+use Rattle.acl_stmt.specs.Lists.{is_some_list}
 use Rattle.acl_stmt.specs.declared.columns.ColumnPriv.{ColumnPriv}
 use Rattle.canonical_texts.proofs.Lexemes.{lexemes_append}
 use Rattle.canonical_texts.specs.Tokens.{column_tokens, columns_item_tokens, list_tokens, mark, name, spaced_mark, spaced_name, word, words_of}

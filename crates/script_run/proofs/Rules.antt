@@ -2,8 +2,8 @@
 use Rattle.std.proofs.Common.{◌≡◌, ◌∙◌, ap, ◌⊎◌, inl, inr, ℕ, Bool, true, false, not, ◌||◌, IsTrue, List, [], ◌∷◌, filter, cond, None, Some, refl}
 use Rattle.std.specs.List.{list_any}
 use Rattle.acl_names.specs.declared.auth.AuthId.{AuthId}
-use Rattle.acl_stmt.specs.Columns.{is_some_list}
 use Rattle.acl_stmt.specs.Entries.{is_entry}
+use Rattle.acl_stmt.specs.Lists.{is_some_list}
 use Rattle.acl_stmt.specs.Requests.{is_request}
 use Rattle.acl_stmt.specs.Statements.{is_statement}
 use Rattle.acl_stmt.specs.declared.privileges.PrivList.{PrivList}

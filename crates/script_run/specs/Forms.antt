@@ -1,10 +1,10 @@
 -- The commands that a run takes so far.
 use Rattle.std.specs.Prelude.{Bool, true, false, ◌&&◌, ◌==◌, not, is_some, []}
 use Rattle.std.specs.List.{list_all}
-use Rattle.acl_model.specs.State.{empty_verifier}
 use Rattle.account_match.specs.declared.client.Client.{Client}
 use Rattle.account_match.specs.declared.client.Client.TheVariants.{Local}
 use Rattle.acl_names.specs.Text.{text_eq}
+use Rattle.acl_names.specs.Verifiers.{empty_verifier}
 use Rattle.acl_names.specs.declared.policy.Verifier.{Verifier}
 use Rattle.acl_stmt.specs.Entries.{is_entry}
 use Rattle.acl_stmt.specs.declared.options.AccountOptions.{AccountOptions}

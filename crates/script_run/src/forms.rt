@@ -1,7 +1,7 @@
 //! The commands that a run takes so far.
 ghost use Rattle.std.specs.Prelude.{◌≡◌};
 ghost use Rattle.std.specs.List.{list_all};
-ghost use Rattle.acl_model.specs.State.{empty_verifier};
+ghost use Rattle.acl_names.specs.Verifiers.{empty_verifier};
 ghost use Rattle.script_run.specs.Forms.{has_no_options, has_no_password, is_built, is_built_statement, is_local, is_static};
 
 use account_match::Client;

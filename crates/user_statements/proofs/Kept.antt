@@ -7,7 +7,7 @@ use Rattle.acl_grammar.specs.Spelling.{repeated, separated, spells}
 use Rattle.acl_names.specs.declared.auth.AuthId.{AuthId}
 use Rattle.acl_names.specs.declared.policy.LockTime.{LockTime}
 use Rattle.acl_names.specs.declared.policy.LockTime.TheVariants.{Days, Unbounded}
-use Rattle.acl_stmt.specs.Columns.{is_some_list}
+use Rattle.acl_stmt.specs.Lists.{is_some_list}
 use Rattle.acl_stmt.specs.Statements.{are_options, are_roles, is_default_form, is_lock_time, is_named, is_option_number, is_statement}
 use Rattle.acl_stmt.specs.declared.options.AccountOptions.{AccountOptions}
 use Rattle.acl_stmt.specs.declared.roles.DefaultForm.{DefaultForm}

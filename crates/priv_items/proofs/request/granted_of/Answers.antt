@@ -12,13 +12,13 @@ pub invariant_of-result : goal.invariant_of-result
 invariant_of-result c =
     record {
       listed = listed_without _ c.in_ok-privileges.field-0.privileges.plain _ _ _ c.in_ok-privileges.field-0.privileges.listed c.without.ensures.known
-          (λ q. c.without.ensures.members q ∙ ap (λ option. not (q == option) && holds c.in_ok-privileges.field-0.privileges.plain q) c.new-option.ensures);
+          (λ q. c.without.ensures.members q ∙ ap (λ option. not (q == option) && holds c.in_ok-privileges.field-0.privileges.plain q) c.grant_option-option.ensures);
     }
 
 pub returns-clause-privileges : goal.returns-clause-privileges
 returns-clause-privileges c =
     meant_without c.args.named.now c.in_ok-privileges.field-0.privileges _ c.in_ok-privileges.ensures.privileges refl
-    (λ q. c.without.ensures.members q ∙ ap (λ option. not (q == option) && holds c.in_ok-privileges.field-0.privileges.plain q) c.new-option.ensures) refl refl
+    (λ q. c.without.ensures.members q ∙ ap (λ option. not (q == option) && holds c.in_ok-privileges.field-0.privileges.plain q) c.grant_option-option.ensures) refl refl
 
 pub returns-clause-request : goal.returns-clause-request
 returns-clause-request c =
