@@ -10,7 +10,7 @@ use Rattle.login_throttle.proofs.Counting.{blocked_by, cleared_shows, fresh_show
 use Rattle.login_throttle.specs.declared.stamp.Stamp.{Stamp}
 use Rattle.login_throttle.specs.declared.tracking.Tried.{Tried}
 use Rattle.login_throttle.specs.declared.tracking.Tried.TheVariants.{Open, Wrong, Blocked}
-use Rattle.login_throttle.specs.History.{Event, Answered, Cleared, Follows, IsHistory, IsLeft, IsStampOf, ShowsCount, blocking_failure, failure_count}
+use Rattle.login_throttle.specs.History.{Event, Answered, Cleared, Follows, IsHistory, MayLeave, IsStampOf, ShowsCount, blocking_failure, failure_count}
 use Rattle.login_throttle.specs.Stamp.{fresh}
 use Rattle.login_throttle.specs.Steps.{stamp_after}
 use Rattle.login_throttle.specs.Tracking.{answer_of, has_ended, is_blocked, is_tracked, stamp_at}
@@ -124,7 +124,7 @@ kept_untracked policy stamp moment answer untracked = after answer ∙ never sta
 -- what an attempt makes of the stamp of a history is the stamp of the history with its answer
 stamp_left : (policy : Policy) (past : List Event) (before : Stamp) (moment : ℤ) (answer : Tried) →
     IsHistory policy (Answered moment answer ∷ past) → IsStampOf policy past before →
-    IsLeft policy before moment answer (stamp_after policy (stamp_at policy before moment) moment answer)
+    MayLeave policy before moment answer (stamp_after policy (stamp_at policy before moment) moment answer)
 stamp_left policy past before moment answer history is =
     let right : Bool = history.2.0 in
     let made : Stamp = stamp_after policy (stamp_at policy before moment) moment answer in

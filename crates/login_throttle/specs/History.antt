@@ -64,10 +64,10 @@ IsHistory policy [] = Unit {0}
 IsHistory policy (Answered moment answer ∷ past) = IsHistory policy past × Follows past moment × IsAnswer policy past moment answer
 IsHistory policy (Cleared ∷ past) = Unit {0}
 
--- what an attempt that had this answer at this moment may leave of a stamp: where failures are counted, one that shows
--- the count with this event more, and else the same; its block began no later, and without one attempts are left
-abbrev pub IsLeft : Policy → Stamp → ℤ → Tried → Stamp → Type 0
-IsLeft policy before moment answer after =
+-- what an attempt with this answer at this moment may leave of a stamp: where failures are counted, one that shows the
+-- count with this event more, and else the same one; its block began no later, and without a block some attempts remain
+abbrev pub MayLeave : Policy → Stamp → ℤ → Tried → Stamp → Type 0
+MayLeave policy before moment answer after =
     (IsTrue (is_tracked policy) → (past : List Event) → ShowsCount policy past before moment →
     (later : ℤ) → moment ≤ℤ later → ShowsCount policy (Answered moment answer ∷ past) after later)
     × (is_tracked policy ≡ false → after ≡ before)
@@ -77,7 +77,7 @@ IsLeft policy before moment answer after =
 -- a stamp that was fresh at first and after each time the failures were cleared, and that each attempt since then left
 abbrev pub IsStampOf : Policy → List Event → Stamp → Type 0
 IsStampOf policy [] stamp = stamp ≡ fresh
-IsStampOf policy (Answered moment answer ∷ past) stamp = (before : Stamp) × (IsStampOf policy past before) × (IsLeft policy before moment answer stamp)
+IsStampOf policy (Answered moment answer ∷ past) stamp = (before : Stamp) × (IsStampOf policy past before) × (MayLeave policy before moment answer stamp)
 IsStampOf policy (Cleared ∷ past) stamp = stamp ≡ fresh
 
 -- three wrong passwords, and then the right one: half a day later, and a day after the last of them
