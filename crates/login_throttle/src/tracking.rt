@@ -67,6 +67,7 @@ pub fn attempt(policy: Policy, stamp: &mut Stamp, moment: i64, right: bool) -> T
     ensures count { IsTrue (is_tracked policy) → (past : List Event) → ShowsCount policy past stamp.old moment →
         (later : ℤ) → moment ≤ℤ later → ShowsCount policy (Answered moment result ∷ past) stamp.new later }
     ensures blocked { IsTrue (is_blocked policy stamp.old.blocked_at moment) → stamp.new ≡ stamp.old }
+    ensures opened { result ≡ Tried.Open → stamp.new ≡ stamp_at policy stamp.old moment }
     ensures untracked { is_tracked policy ≡ false → stamp.new ≡ stamp.old }
     ensures moment { ForSome stamp.new.blocked_at (λ since. since ≤ℤ moment) }
     ensures failures { IsTrue (is_tracked policy) → stamp.new.blocked_at ≡ None →
