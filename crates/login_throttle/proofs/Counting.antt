@@ -44,11 +44,11 @@ stays_open policy (Some since) earlier later order is_open =
     (stays_ended earlier later (opens_at policy.days since) order) is_open
 
 -- the stamp with these failures that blocks no account
-abbrev rest_of : ℕ → Stamp
+abbrev pub rest_of : ℕ → Stamp
 rest_of failures = record { failures = failures; blocked_at = None }
 
 -- that of an account that is blocked
-abbrev blocked_by : Policy → Option ℤ → Stamp
+abbrev pub blocked_by : Policy → Option ℤ → Stamp
 blocked_by policy block = record { failures = policy.attempts; blocked_at = block }
 
 ended_or_not : (t before : Bool) (rest : ℕ) (stamp : Stamp) → t ≡ true → rest ≡ 0 →
@@ -73,7 +73,7 @@ no_rest some rest last since is =
     ]
 
 -- attempts are counted only where their number is not 0
-some_attempts : (attempts : ℕ) (locks : Bool) → (not (attempts == 0) && locks) ≡ true → 0 < attempts
+pub some_attempts : (attempts : ℕ) (locks : Bool) → (not (attempts == 0) && locks) ≡ true → 0 < attempts
 some_attempts zero locks tracked = absurd (true≢false (sym tracked))
 some_attempts (suc attempts) locks tracked = omega arith
 
@@ -100,7 +100,7 @@ failure_shows policy count last moment tracked =
     ]
 
 -- an account that is not blocked answers to the password
-open_answer : (policy : Policy) (block : Option ℤ) (moment : ℤ) (right : Bool) → is_blocked policy block moment ≡ false →
+pub open_answer : (policy : Policy) (block : Option ℤ) (moment : ℤ) (right : Bool) → is_blocked policy block moment ≡ false →
     answer_of policy block moment right ≡ (if right then Open else Wrong)
 open_answer policy None moment right is_open = refl
 open_answer policy (Some since) moment right is_open = rw is_open refl
@@ -139,7 +139,7 @@ step_shows policy past earlier moment false false tracked order is_open =
     (rw tracked (failure_shows policy (failure_count past) earlier moment tracked))
 
 -- where wrong passwords are not counted, no account is blocked
-untracked_open : (policy : Policy) (block : Option ℤ) (moment : ℤ) → is_tracked policy ≡ false → is_blocked policy block moment ≡ false
+pub untracked_open : (policy : Policy) (block : Option ℤ) (moment : ℤ) → is_tracked policy ≡ false → is_blocked policy block moment ≡ false
 untracked_open policy None moment untracked = refl
 untracked_open policy (Some since) moment untracked = rw untracked refl
 

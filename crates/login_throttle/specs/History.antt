@@ -1,11 +1,13 @@
 -- What the rule of failed logins comes to over all that happened to an account: its wrong passwords are counted.
-use Rattle.std.specs.Prelude.{◌≡◌, ◌+◌, ◌%◌, ◌==◌, ◌&&◌, ℕ, ℤ, pos, not, List, [], ◌∷◌, Option, Some, None, if◌then◌else◌, refl, true}
+use Rattle.std.specs.Prelude.{◌≡◌, ◌<◌, ◌+◌, ◌%◌, ◌==◌, ◌&&◌, ◌≤ℤ◌, ℕ, ℤ, pos, Bool, not, List, [], ◌∷◌, IsTrue, Option, Some, None, if◌then◌else◌, refl, true, false}
+use Rattle.std.specs.Option.{ForSome}
 use Rattle.acl_names.specs.declared.policy.LockTime.TheVariants.{Days}
 use Rattle.acl_names.specs.declared.policy.Policy.{Policy}
 use Rattle.login_throttle.specs.declared.stamp.Stamp.{Stamp}
 use Rattle.login_throttle.specs.declared.tracking.Tried.{Tried}
 use Rattle.login_throttle.specs.declared.tracking.Tried.TheVariants.{Open, Wrong, Blocked}
-use Rattle.login_throttle.specs.Tracking.{answer_of, is_blocked, stamp_at}
+use Rattle.login_throttle.specs.Stamp.{fresh}
+use Rattle.login_throttle.specs.Tracking.{answer_of, is_blocked, is_tracked, stamp_at}
 
 -- What happened to an account: an attempt at a moment, with its answer, or that its failures were cleared, by a
 -- success or by a statement. Lists of events have the newest first.
@@ -45,6 +47,38 @@ counted_stamp policy past moment =
 -- whether the stamp shows at a moment what the count of the events says
 abbrev pub ShowsCount : Policy → List Event → Stamp → ℤ → Type 0
 ShowsCount policy past stamp moment = stamp_at policy stamp moment ≡ counted_stamp policy past moment
+
+-- a moment that is not before the last attempt since then
+abbrev pub Follows : List Event → ℤ → Type 0
+Follows [] moment = Unit {0}
+Follows (Answered earlier answer ∷ past) moment = earlier ≤ℤ moment
+Follows (Cleared ∷ past) moment = Unit {0}
+
+-- the answer to some password after these events, by their count
+abbrev pub IsAnswer : Policy → List Event → ℤ → Tried → Type 0
+IsAnswer policy past moment answer = (right : Bool) × (answer ≡ answer_of policy (blocking_failure policy past) moment right)
+
+-- since the failures were last cleared, no attempt is before an earlier one, and each has its answer by the count
+abbrev pub IsHistory : Policy → List Event → Type 0
+IsHistory policy [] = Unit {0}
+IsHistory policy (Answered moment answer ∷ past) = IsHistory policy past × Follows past moment × IsAnswer policy past moment answer
+IsHistory policy (Cleared ∷ past) = Unit {0}
+
+-- what an attempt with this answer at this moment may leave of a stamp: where failures are counted, one that shows the
+-- count with this event more, and else the same one; its block began no later, and without a block some attempts remain
+abbrev pub MayLeave : Policy → Stamp → ℤ → Tried → Stamp → Type 0
+MayLeave policy before moment answer after =
+    (IsTrue (is_tracked policy) → (past : List Event) → ShowsCount policy past before moment →
+    (later : ℤ) → moment ≤ℤ later → ShowsCount policy (Answered moment answer ∷ past) after later)
+    × (is_tracked policy ≡ false → after ≡ before)
+    × (ForSome after.blocked_at (λ since. since ≤ℤ moment))
+    × (IsTrue (is_tracked policy) → after.blocked_at ≡ None → after.failures < policy.attempts)
+
+-- a stamp that was fresh at first and after each time the failures were cleared, and that each attempt since then left
+abbrev pub IsStampOf : Policy → List Event → Stamp → Type 0
+IsStampOf policy [] stamp = stamp ≡ fresh
+IsStampOf policy (Answered moment answer ∷ past) stamp = (before : Stamp) × (IsStampOf policy past before) × (MayLeave policy before moment answer stamp)
+IsStampOf policy (Cleared ∷ past) stamp = stamp ≡ fresh
 
 -- three wrong passwords, and then the right one: half a day later, and a day after the last of them
 three_of_a_day : Policy

@@ -8,7 +8,7 @@ mod password;
 mod stamp;
 mod tracking;
 
-pub use laws::{empty_password_is_known, fresh_stamps_show_the_count};
+pub use laws::{empty_password_is_known, fresh_stamps_show_the_count, stamps_count_failures};
 pub use password::verifier;
 pub use stamp::{Stamp, reset};
 pub use tracking::{Tried, attempt};

@@ -2,7 +2,7 @@
 ghost use Rattle.std.specs.Prelude.{◌≡◌, ◌<◌, ◌≤◌, ◌≤ℤ◌, ℤ, List, ◌∷◌, false, IsTrue, if◌then◌else◌};
 ghost use Rattle.std.specs.Option.{ForSome};
 ghost use Rattle.login_throttle.specs.Steps.{stamp_after};
-ghost use Rattle.login_throttle.specs.History.{Answered, Event, ShowsCount, blocking_failure};
+ghost use Rattle.login_throttle.specs.History.{Answered, Event, MayLeave, ShowsCount, blocking_failure};
 ghost use Rattle.login_throttle.specs.Tracking.{IsWithinLimit, answer_of, is_before, is_blocked, is_tracked, opens_at, seconds_until, stamp_at};
 
 use crate::stamp::{Stamp, reset};
@@ -54,6 +54,7 @@ fn while_blocked(days: LockTime, since: i64, moment: i64) -> Option<Tried>
 ///
 /// The wrong password that blocks the account is itself answered as one. A policy that counts none leaves the stamp.
 /// After a login that succeeds the caller resets the stamp.
+/// `left` says `count`, `untracked`, `moment` and `failures` at once, as `stamps_count_failures` takes them.
 pub fn attempt(policy: Policy, stamp: &mut Stamp, moment: i64, right: bool) -> Tried
     requires attempts { policy.attempts ≤ 32767 }
     requires days { IsWithinLimit policy.days }
@@ -66,10 +67,12 @@ pub fn attempt(policy: Policy, stamp: &mut Stamp, moment: i64, right: bool) -> T
     ensures count { IsTrue (is_tracked policy) → (past : List Event) → ShowsCount policy past stamp.old moment →
         (later : ℤ) → moment ≤ℤ later → ShowsCount policy (Answered moment result ∷ past) stamp.new later }
     ensures blocked { IsTrue (is_blocked policy stamp.old.blocked_at moment) → stamp.new ≡ stamp.old }
+    ensures opened { result ≡ Tried.Open → stamp.new ≡ stamp_at policy stamp.old moment }
     ensures untracked { is_tracked policy ≡ false → stamp.new ≡ stamp.old }
     ensures moment { ForSome stamp.new.blocked_at (λ since. since ≤ℤ moment) }
     ensures failures { IsTrue (is_tracked policy) → stamp.new.blocked_at ≡ None →
         stamp.new.failures < policy.attempts }
+    ensures left { MayLeave policy stamp.old moment result stamp.new }
 {
     step(policy, stamp, moment, right)
 }

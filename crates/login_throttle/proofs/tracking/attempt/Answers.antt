@@ -16,3 +16,7 @@ returns-clause-count c tracked past shown later order =
     search rules in
     shown_after c.args.policy past c.args.stamp.now c.args.moment later c.args.right c.step.result c.step.new.stamp tracked order shown
     answered made
+
+-- the clauses `count`, `untracked`, `moment` and `failures` together
+pub returns-clause-left : goal.returns-clause-left
+returns-clause-left c = (returns-clause-count c, search rules, search rules, search rules)
