@@ -45,6 +45,7 @@ impl Model for Rows {
     ghost use Rattle.std.specs.Prelude.{IsTrue};
     ghost use Rattle.acl_names.specs.AuthId.{same_auth};
     ghost use Rattle.acl_rows.specs.Tables.{Tables, names_of};
+    ghost use Rattle.acl_stmt.specs.Lists.{all_differ_by};
 
     ghost Value = { Tables };
 
@@ -65,7 +66,6 @@ impl Rows {
     ghost use Rattle.acl_rows.specs.Opening.{opening_below};
     ghost use Rattle.acl_rows.specs.Order.{row_cmp};
     ghost use Rattle.acl_rows.specs.Tables.{state_of};
-    ghost use Rattle.acl_stmt.specs.Lists.{all_differ_by};
 
     /// What stands before the first statement: `root`@`localhost` with each privilege on `*.*`, which it may grant.
     pub fn opening(alloc: Global) -> Result<Rows, AllocError>
