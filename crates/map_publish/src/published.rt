@@ -83,7 +83,9 @@ impl Published {
         ensures err { IfErr result (IsCause
             (IsRefused (state_after (entries_of self.old) opening_state) entry)) }
     {
-        self.entries.reserve(1).map_err(|_| Refusal::NoMemory)?;
+        let Ok(()) = self.entries.reserve(1) else {
+            return Err(Refusal::NoMemory);
+        };
         match self.map.prepare(alloc, &entry) {
             Ok(change) => Ok(Next { entry, change }),
             Err(refusal) => Err(refusal),
