@@ -466,12 +466,17 @@ fn each_run_ends_as_told(rt: HostRuntime) -> Result<(), Fail> {
     Ok(())
 }
 
+// So many empty lines, and how the program ends.
+static LENGTHS: [(usize, u8, &str); 2] = [(200_000, 0, ""), (200_001, 9, "limit lines 200000\n")];
+
 #[test]
-fn as_many_lines_as_there_may_be_are_read(rt: HostRuntime) -> Result<(), Fail> {
-    let script = vec![in rt.alloc(); b'\n'; 200_000]?;
-    let ended = run(rt.alloc(), "step a b", &script, Failing::Nothing)?;
-    assert_eq!(rt; ended.err.written(), b"".as_slice());
-    assert_eq!(rt; ended.status, 0);
+fn lines_are_counted_before_they_are_read(rt: HostRuntime) -> Result<(), Fail> {
+    for (length, status, told) in &LENGTHS {
+        let script = vec![in rt.alloc(); b'\n'; *length]?;
+        let ended = run(rt.alloc(), "step a b", &script, Failing::Nothing)?;
+        assert_eq!(rt; ended.err.written(), told.as_bytes());
+        assert_eq!(rt; ended.status, *status);
+    }
     Ok(())
 }
 
