@@ -84,7 +84,11 @@ fn asks_dynamic(request: &Request, privilege: Dynamic) -> bool
 fn asks_static(request: &Request, privilege: Plain) -> bool
     ensures { result ≡ names_static request.now.privileges (level_of request.now.target) privilege }
 {
-    names_static(&request.privileges, request.target.level(), privilege.number())
+    names_static(
+        &request.privileges,
+        request.target.level(),
+        privilege.number(),
+    )
 }
 
 fn missing_of(rows: &Rows, acting: &Acting, request: &Request, privilege: Plain) -> Option<Missing>
