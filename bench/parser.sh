@@ -10,7 +10,7 @@ trap 'rm -rf "$scratch"' EXIT
 
 mkdir -p "$scratch/crates/times/src"
 for crate in acl_items acl_grammar priv_sets grant_lex acl_names account_match login_throttle \
-    mandatory_roles acl_stmt grant_words user_statements grant_refusal priv_items privilege_statements grant_texts grant_parse
+    mandatory_roles acl_stmt grant_words user_statements grant_refusal priv_items privilege_statements grant_parse
 do
     cp -R "$top/crates/$crate" "$scratch/crates/"
     grep "^$crate:" "$top/crates.txt" >> "$scratch/crates.txt"
