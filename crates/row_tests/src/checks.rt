@@ -114,7 +114,7 @@ fn run(rt: &impl Abort, alloc: Global, map: &mut PrivMap, statements: &str) -> R
     Ok(())
 }
 
-fn session(rt: &impl Abort, alloc: Global, map: &PrivMap) -> Result<Acting, Fail> {
+fn session_of(rt: &impl Abort, alloc: Global, map: &PrivMap) -> Result<Acting, Fail> {
     let user = account(rt, alloc, "u")?;
     let mut acting = map.acting(alloc, &user, Items::new(alloc))?;
     let schema = Ident::read(alloc, "s")?;
@@ -147,7 +147,7 @@ fn a_check_names_what_is_missing(rt: HostRuntime) -> Result<(), Fail> {
     for case in &SESSIONS {
         let mut map = PrivMap::opening(alloc)?;
         run(&rt, alloc, &mut map, case.before)?;
-        let acting = session(&rt, alloc, &map)?;
+        let acting = session_of(&rt, alloc, &map)?;
         run(&rt, alloc, &mut map, case.after)?;
         let mut answers = String::new(alloc);
         for text in case.checks.lines() {

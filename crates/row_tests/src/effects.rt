@@ -80,7 +80,7 @@ fn found(alloc: Global, account: Option<&AuthId>) -> Result<String, Fail> {
     })
 }
 
-fn effect(
+fn effect_of(
     alloc: Global,
     rows: &Rows,
     limits: &[Limit],
@@ -143,7 +143,7 @@ fn grants_and_revokes_take_and_give_rows(rt: HostRuntime) -> Result<(), Fail> {
             &limits[..0]
         };
         let statement = parse(alloc, case.statement, 1000)?;
-        let effect = effect(alloc, &rows, limits, &statement)?;
+        let effect = effect_of(alloc, &rows, limits, &statement)?;
         assert_eq!(rt; effect.as_str(), case.effect, "{}", case.statement);
     }
     Ok(())

@@ -57,7 +57,7 @@ fn kind_text(alloc: Global, kind: Kind) -> Result<String, Fail> {
     })
 }
 
-fn cut(rt: &impl Abort, alloc: Global, text: &str) -> Result<String, Fail> {
+fn cut_text(rt: &impl Abort, alloc: Global, text: &str) -> Result<String, Fail> {
     assert!(rt; text.len() < 1_000);
     let mut cut = String::new(alloc);
     match tokens(alloc, text) {
@@ -78,7 +78,7 @@ fn cut(rt: &impl Abort, alloc: Global, text: &str) -> Result<String, Fail> {
 #[test]
 fn cuts_texts_into_tokens_or_tells_the_first_fault(rt: HostRuntime) -> Result<(), Fail> {
     for case in &TEXTS {
-        let read = cut(&rt, rt.alloc(), case.text)?;
+        let read = cut_text(&rt, rt.alloc(), case.text)?;
         assert_eq!(rt; read.as_str(), case.tokens, "at {:?}", case.text);
     }
     Ok(())
