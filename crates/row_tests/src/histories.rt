@@ -256,11 +256,22 @@ fn row_text(alloc: Global, row: &Row) -> Result<String, Fail> {
     })
 }
 
-// Whether each row is its copy, and no other row is.
+// How many rows are this one.
+fn count_of(row: &Row, rows: &[Row]) -> usize {
+    let mut count = 0usize;
+    for other in rows {
+        if row.is(other) {
+            count = count.saturating_add(1);
+        }
+    }
+    count
+}
+
+// Whether the copy of each row is one row, and no other.
 fn differ(alloc: Global, rows: &[Row]) -> Result<bool, Fail> {
-    for (place, row) in rows.iter().enumerate() {
+    for row in rows {
         let copy = row.copy(alloc)?;
-        if rows.iter().position(|other| copy.is(other)) != Some(place) {
+        if count_of(&copy, rows) != 1 {
             return Ok(false);
         }
     }
