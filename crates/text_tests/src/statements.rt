@@ -150,13 +150,21 @@ pub(crate) fn refusal_text(alloc: Global, refusal: ParseRefusal) -> Result<Strin
     })
 }
 
-// The canonical text, where the statement and a copy of it are read back from it.
+fn is_read_back(alloc: Global, text: &str, statement: &Statement) -> bool {
+    match parse(alloc, text, 1000) {
+        Ok(again) => again == *statement,
+        Err(_) => false,
+    }
+}
+
+// The canonical text, where a copy of the statement is read back from it.
 fn written(alloc: Global, statement: &Statement) -> Result<String, Fail> {
     let text = text_of(alloc, statement)?;
     let copy = statement.copy(alloc)?;
-    match parse(alloc, text.as_str(), 1000) {
-        Ok(again) if again == copy => Ok(text),
-        _ => Ok(format!(in alloc; "another statement than {}", text.as_str())?),
+    if is_read_back(alloc, text.as_str(), &copy) {
+        Ok(text)
+    } else {
+        Ok(String::from_str(alloc, "another statement")?)
     }
 }
 
