@@ -37,33 +37,32 @@ static REQUESTS: [Asked; 16] = [
     Asked { text: "", read: "syntax at 0" },
 ];
 
-fn granted(alloc: Global, request: Request) -> Result<String, Fail> {
+fn account(alloc: Global) -> Result<AuthId, Fail> {
     let user = UserName::read(alloc, "u")?;
     let host = HostText::read(alloc, "%")?;
-    let copy = request.copy(alloc)?;
+    Ok(AuthId { user, host })
+}
+
+// The grant of what is requested.
+fn grant_of(alloc: Global, request: Request) -> Result<Statement, Fail> {
     let mut accounts = Items::new(alloc);
-    accounts.push(AuthId { user, host })?;
-    let Request { privileges, target } = request;
-    let statement = Statement::Grant {
-        privileges,
-        target,
+    accounts.push(account(alloc)?)?;
+    Ok(Statement::Grant {
+        privileges: request.privileges,
+        target: request.target,
         accounts,
         with_grant_option: false,
-    };
-    let text = text_of(alloc, &statement)?;
-    match statement {
-        Statement::Grant {
-            privileges,
-            target,
-            ..
-        } if privileges == copy.privileges && target == copy.target => Ok(text),
-        _ => Ok(String::from_str(alloc, "another request")?),
-    }
+    })
+}
+
+fn granted(alloc: Global, request: &Request) -> Result<String, Fail> {
+    let statement = grant_of(alloc, request.copy(alloc)?)?;
+    Ok(text_of(alloc, &statement)?)
 }
 
 fn reading(alloc: Global, text: &str) -> Result<String, Fail> {
     match parse_request(alloc, text, 1000) {
-        Ok(request) => granted(alloc, request),
+        Ok(request) => granted(alloc, &request),
         Err(refusal) => refusal_text(alloc, refusal),
     }
 }

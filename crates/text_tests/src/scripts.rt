@@ -295,9 +295,9 @@ static LIMITS: [Repeated; 8] = [
 ];
 
 fn refusal_text(alloc: Global, script: &str) -> Result<String, Fail> {
-    match read_script(alloc, script.as_bytes()) {
-        Ok(_) => Ok(String::new(alloc)),
-        Err(refusal) => Ok(format!(in alloc; "{refusal}")?),
+    match read_script(alloc, script.as_bytes()).err() {
+        None => Ok(String::new(alloc)),
+        Some(refusal) => Ok(format!(in alloc; "{refusal}")?),
     }
 }
 
