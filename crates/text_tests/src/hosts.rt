@@ -263,6 +263,7 @@ fn user(rt: &impl Abort, alloc: Global, text: &str) -> Result<UserName, Fail> {
 fn the_first_account_that_admits_the_client_is_chosen(rt: HostRuntime) -> Result<(), Fail> {
     let alloc = rt.alloc();
     let accounts = all_listed(&rt, alloc)?;
+    assert!(rt; is_ordered(&accounts));
     for case in &LOGINS {
         let client = client_at(&rt, alloc, case.address, case.name)?;
         let chosen = choose(&accounts, &user(&rt, alloc, case.user)?, &client);

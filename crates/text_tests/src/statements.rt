@@ -1,10 +1,9 @@
 //! Statements of all kinds, and the canonical texts from which they are read back.
-use acl_stmt::Statement;
 use entry_codec::text_of;
 use grant_lex::tokens;
 use grant_parse::parse;
 use grant_refusal::ParseRefusal;
-use std::alloc::Global;
+use std::alloc::{AllocError, Global};
 use std::process::Abort;
 use std::test::Fail;
 
@@ -15,57 +14,29 @@ struct Text {
 }
 
 #[rattlefmt::skip]
-static USERS: [Text; 45] = [
+static READ: [Text; 50] = [
     Text { text: "create user u1", read: "CREATE USER `u1`@`%` IDENTIFIED BY VERIFIER 'e3b0c44298fc1c149afbf4c8996fb92427ae41e4649b934ca495991b7852b855'" },
     Text { text: "create user if not exists a@H1 identified by 'x', b account lock failed_login_attempts 007 account unlock", read: "CREATE USER IF NOT EXISTS `a`@`h1` IDENTIFIED BY VERIFIER '2d711642b726b04401627ca9fbac32f5c8530fb1903cc4db02258717921a4881', `b`@`%` IDENTIFIED BY VERIFIER 'e3b0c44298fc1c149afbf4c8996fb92427ae41e4649b934ca495991b7852b855' FAILED_LOGIN_ATTEMPTS 7 ACCOUNT UNLOCK" },
     Text { text: "CREATE USER u FAILED_LOGIN_ATTEMPTS 00003 PASSWORD_LOCK_TIME UNBOUNDED", read: "CREATE USER `u`@`%` IDENTIFIED BY VERIFIER 'e3b0c44298fc1c149afbf4c8996fb92427ae41e4649b934ca495991b7852b855' FAILED_LOGIN_ATTEMPTS 3 PASSWORD_LOCK_TIME UNBOUNDED" },
     // The last of several options counts.
     Text { text: "ALTER USER u ACCOUNT LOCK FAILED_LOGIN_ATTEMPTS 1 ACCOUNT UNLOCK FAILED_LOGIN_ATTEMPTS 2 PASSWORD_LOCK_TIME 5", read: "ALTER USER `u`@`%` FAILED_LOGIN_ATTEMPTS 2 PASSWORD_LOCK_TIME 5 ACCOUNT UNLOCK" },
-    Text { text: "CREATE USER u FAILED_LOGIN_ATTEMPTS 32768", read: "syntax at 36" },
-    Text { text: "CREATE USER u FAILED_LOGIN_ATTEMPTS 000003", read: "syntax at 36" },
-    Text { text: "CREATE USER u ACCOUNT", read: "syntax at 21" },
-    Text { text: "CREATE USER IF EXISTS u", read: "syntax at 15" },
-    Text { text: "CREATE USER u IDENTIFIED BY VERIFIER 'ab'", read: "syntax at 37" },
-    Text { text: "CREATE USER u IDENTIFIED BY x", read: "syntax at 28" },
-    Text { text: "CREATE USER 'u'@'198.51.100.0/255.0.255.0'", read: "syntax at 16" },
-    Text { text: "CREATE x", read: "syntax at 7" },
     Text { text: "alter user a password_lock_time unbounded;", read: "ALTER USER `a`@`%` PASSWORD_LOCK_TIME UNBOUNDED" },
     Text { text: "ALTER USER u, v IDENTIFIED BY VERIFIER 'ba7816bf8f01cfea414140de5dae2223b00361a396177a9cb410ff61f20015ad'", read: "ALTER USER `u`@`%`, `v`@`%` IDENTIFIED BY VERIFIER 'ba7816bf8f01cfea414140de5dae2223b00361a396177a9cb410ff61f20015ad'" },
-    Text { text: "ALTER USER u IDENTIFIED BY VERIFIER 'BA7816bf8f01cfea414140de5dae2223b00361a396177a9cb410ff61f20015ad'", read: "syntax at 36" },
-    Text { text: "ALTER ROLE u", read: "syntax at 6" },
     Text { text: "drop user if exists a, `b``c`@'192.0.2.0/255.255.255.0'", read: "DROP USER IF EXISTS `a`@`%`, `b``c`@`192.0.2.0/255.255.255.0`" },
-    Text { text: "DROP USER", read: "syntax at 9" },
-    Text { text: "DROP USER u;;", read: "syntax at 12" },
-    Text { text: "DROP USER `u", read: "syntax at 10" },
     Text { text: "rename user `we``ird`@H1 to `it's\\`", read: "RENAME USER `we``ird`@`h1` TO `it's\\`@`%`" },
     Text { text: "RENAME USER a TO b, ''@h TO c", read: "RENAME USER `a`@`%` TO `b`@`%`, ``@`h` TO `c`@`%`" },
-    Text { text: "RENAME USER a TO ''", read: "syntax at 17" },
-    Text { text: "RENAME USER a b", read: "syntax at 14" },
     Text { text: "CREATE ROLE IF NOT EXISTS r1, r2@h", read: "CREATE ROLE IF NOT EXISTS `r1`@`%`, `r2`@`h`" },
     Text { text: "drop role if exists r", read: "DROP ROLE IF EXISTS `r`@`%`" },
-    Text { text: "DROP ROLE ''", read: "syntax at 10" },
     Text { text: "grant r1, event to u with admin option", read: "GRANT `r1`@`%`, `event`@`%` TO `u`@`%` WITH ADMIN OPTION" },
     Text { text: "GRANT r@on TO u", read: "GRANT `r`@`on` TO `u`@`%`" },
-    Text { text: "GRANT r1 TO u1 WITH GRANT OPTION", read: "syntax at 20" },
-    Text { text: "GRANT r@h ON s.t TO u", read: "syntax at 10" },
-    Text { text: "GRANT a, b c ON", read: "syntax at 11" },
     Text { text: "revoke r from u", read: "REVOKE `r`@`%` FROM `u`@`%`" },
-    Text { text: "REVOKE r TO u", read: "syntax at 9" },
     Text { text: "set default role all to u", read: "SET DEFAULT ROLE ALL TO `u`@`%`" },
     Text { text: "SET DEFAULT ROLE NONE TO u", read: "SET DEFAULT ROLE NONE TO `u`@`%`" },
     Text { text: "SET DEFAULT ROLE r1, r2 TO u, v", read: "SET DEFAULT ROLE `r1`@`%`, `r2`@`%` TO `u`@`%`, `v`@`%`" },
-    Text { text: "SET DEFAULT r1 TO u", read: "syntax at 12" },
     Text { text: "set password for u = 'x'", read: "SET PASSWORD FOR `u`@`%` = VERIFIER '2d711642b726b04401627ca9fbac32f5c8530fb1903cc4db02258717921a4881'" },
-    Text { text: "SET PASSWORD FOR u = VERIFIER 'x'", read: "syntax at 30" },
     Text { text: "set persist mandatory_roles = 'r1, r3@%.Example.com, `it''s\\\\`'", read: "SET PERSIST mandatory_roles = '`r1`@`%`,`r3`@`%.example.com`,`it''s\\\\`@`%`'" },
-    Text { text: "SET PERSIST mandatory_roles = 'r1,'", read: "syntax at 30" },
     Text { text: "SET PERSIST Activate_All_Roles_On_Login = ON", read: "SET PERSIST activate_all_roles_on_login = ON" },
     Text { text: "set persist activate_all_roles_on_login = off", read: "SET PERSIST activate_all_roles_on_login = OFF" },
-    Text { text: "SET PERSIST activate_all_roles_on_login = YES", read: "syntax at 42" },
-];
-
-#[rattlefmt::skip]
-static PRIVILEGES: [Text; 71] = [
     Text { text: "grant insert,select on world.* to 'u1';", read: "GRANT SELECT, INSERT ON `world`.* TO `u1`@`%`" },
     Text { text: "GRANT event TO u1", read: "GRANT `event`@`%` TO `u1`@`%`" },
     Text { text: "GRANT event ON *.* TO u1", read: "GRANT EVENT ON *.* TO `u1`@`%`" },
@@ -75,8 +46,6 @@ static PRIVILEGES: [Text; 71] = [
     Text { text: "REVOKE ALL, GRANT OPTION FROM u1", read: "REVOKE ALL PRIVILEGES, GRANT OPTION FROM `u1`@`%`" },
     Text { text: "REVOKE ALL PRIVILEGES, GRANT OPTION FROM u, v;", read: "REVOKE ALL PRIVILEGES, GRANT OPTION FROM `u`@`%`, `v`@`%`" },
     Text { text: "REVOKE ALL ON TABLE s.t FROM u1", read: "REVOKE ALL ON `s`.`t` FROM `u1`@`%`" },
-    Text { text: "REVOKE ALL GRANT OPTION FROM u", read: "syntax at 11" },
-    Text { text: "REVOKE ALL, SELECT ON s.* FROM u", read: "syntax at 12" },
     Text { text: "grant create user, Create, CREATE Temporary TABLES, drop, drop role, lock tables on *.* to a@H, `b c` with grant option", read: "GRANT CREATE, DROP, CREATE TEMPORARY TABLES, LOCK TABLES, CREATE USER, DROP ROLE ON *.* TO `a`@`h`, `b c`@`%` WITH GRANT OPTION" },
     Text { text: "GRANT SELECT (b, `a``c`, B), insert, UPDATE(d), USAGE ON TABLE W.`t` TO 'a'@'%'", read: "GRANT SELECT (`b`, `a``c`), INSERT, UPDATE (`d`) ON `W`.`t` TO `a`@`%`" },
     Text { text: "GRANT UPDATE (b), SELECT (Id,name), SELECT, SELECT (NAME,area,ID) ON s.t TO a", read: "GRANT SELECT, SELECT (`id`, `name`, `area`), UPDATE (`b`) ON `s`.`t` TO `a`@`%`" },
@@ -97,6 +66,36 @@ static PRIVILEGES: [Text; 71] = [
     Text { text: "REVOKE USAGE ON `\\_`.* FROM a", read: "REVOKE USAGE ON `_`.* FROM `a`@`%`" },
     Text { text: "GRANT SHOW DATABASES, SHOW VIEW, REPLICATION SLAVE, REPLICATION CLIENT ON *.* TO a", read: "GRANT SHOW DATABASES, REPLICATION SLAVE, REPLICATION CLIENT, SHOW VIEW ON *.* TO `a`@`%`" },
     Text { text: "GRANT EVENT ON `abcdefghijklmnopqrstuvwxyzabcdefghijklmnopqrstuvwxyzabcdefghijk\\%`.* TO a", read: "GRANT EVENT ON `abcdefghijklmnopqrstuvwxyzabcdefghijklmnopqrstuvwxyzabcdefghijk%`.* TO `a`@`%`" },
+];
+
+#[rattlefmt::skip]
+static REFUSED: [Text; 66] = [
+    Text { text: "CREATE USER u FAILED_LOGIN_ATTEMPTS 32768", read: "syntax at 36" },
+    Text { text: "CREATE USER u FAILED_LOGIN_ATTEMPTS 000003", read: "syntax at 36" },
+    Text { text: "CREATE USER u ACCOUNT", read: "syntax at 21" },
+    Text { text: "CREATE USER IF EXISTS u", read: "syntax at 15" },
+    Text { text: "CREATE USER u IDENTIFIED BY VERIFIER 'ab'", read: "syntax at 37" },
+    Text { text: "CREATE USER u IDENTIFIED BY x", read: "syntax at 28" },
+    Text { text: "CREATE USER 'u'@'198.51.100.0/255.0.255.0'", read: "syntax at 16" },
+    Text { text: "CREATE x", read: "syntax at 7" },
+    Text { text: "ALTER USER u IDENTIFIED BY VERIFIER 'BA7816bf8f01cfea414140de5dae2223b00361a396177a9cb410ff61f20015ad'", read: "syntax at 36" },
+    Text { text: "ALTER ROLE u", read: "syntax at 6" },
+    Text { text: "DROP USER", read: "syntax at 9" },
+    Text { text: "DROP USER u;;", read: "syntax at 12" },
+    Text { text: "DROP USER `u", read: "syntax at 10" },
+    Text { text: "RENAME USER a TO ''", read: "syntax at 17" },
+    Text { text: "RENAME USER a b", read: "syntax at 14" },
+    Text { text: "DROP ROLE ''", read: "syntax at 10" },
+    Text { text: "GRANT r1 TO u1 WITH GRANT OPTION", read: "syntax at 20" },
+    Text { text: "GRANT r@h ON s.t TO u", read: "syntax at 10" },
+    Text { text: "GRANT a, b c ON", read: "syntax at 11" },
+    Text { text: "REVOKE r TO u", read: "syntax at 9" },
+    Text { text: "SET DEFAULT r1 TO u", read: "syntax at 12" },
+    Text { text: "SET PASSWORD FOR u = VERIFIER 'x'", read: "syntax at 30" },
+    Text { text: "SET PERSIST mandatory_roles = 'r1,'", read: "syntax at 30" },
+    Text { text: "SET PERSIST activate_all_roles_on_login = YES", read: "syntax at 42" },
+    Text { text: "REVOKE ALL GRANT OPTION FROM u", read: "syntax at 11" },
+    Text { text: "REVOKE ALL, SELECT ON s.* FROM u", read: "syntax at 12" },
     Text { text: "GRANT EVENT ON `abcdefghijklmnopqrstuvwxyzabcdefghijklmnopqrstuvwxyzabcdefghijk\\%`.t TO a", read: "syntax at 83" },
     Text { text: "GRANT EVENT ON `abcdefghijklmnopqrstuvwxyzabcdefghijklmnopqrstuvwxyzabcdefghijklm`.* TO a", read: "syntax at 15" },
     // The first privilege of the text that the level of the target lacks.
@@ -141,6 +140,40 @@ static PRIVILEGES: [Text; 71] = [
     Text { text: "GRANT SELECT ON s.t TO to", read: "syntax at 23" },
 ];
 
+// Whether the text is a statement with that canonical text, which is read as the same statement.
+fn is_read_back(alloc: Global, text: &str, wanted: &str) -> Result<bool, AllocError> {
+    let Ok(statement) = parse(alloc, text, 1000) else {
+        return Ok(false);
+    };
+    let written = text_of(alloc, &statement)?;
+    let Ok(again) = parse(alloc, written.as_str(), 1000) else {
+        return Ok(false);
+    };
+    Ok(written.as_str() == wanted && again == statement)
+}
+
+// Whether the text is a statement whose copy is the same.
+fn is_copied(alloc: Global, text: &str) -> Result<bool, AllocError> {
+    let Ok(statement) = parse(alloc, text, 1000) else {
+        return Ok(false);
+    };
+    let copy = statement.copy(alloc)?;
+    Ok(copy == statement)
+}
+
+#[test]
+fn statements_are_read_back(rt: HostRuntime) -> Result<(), Fail> {
+    for case in &READ {
+        assert!(rt;
+            is_read_back(rt.alloc(), case.text, case.read)?,
+            "{}",
+            case.text
+        );
+        assert!(rt; is_copied(rt.alloc(), case.text)?, "{}", case.text);
+    }
+    Ok(())
+}
+
 pub(crate) fn refusal_text(alloc: Global, refusal: ParseRefusal) -> Result<String, Fail> {
     Ok(match refusal {
         ParseRefusal::Limit => String::from_str(alloc, "too long")?,
@@ -150,36 +183,18 @@ pub(crate) fn refusal_text(alloc: Global, refusal: ParseRefusal) -> Result<Strin
     })
 }
 
-fn is_read_back(alloc: Global, text: &str, statement: &Statement) -> bool {
-    match parse(alloc, text, 1000) {
-        Ok(again) => again == *statement,
-        Err(_) => false,
-    }
-}
-
-// The canonical text, where a copy of the statement is read back from it.
-fn written(alloc: Global, statement: &Statement) -> Result<String, Fail> {
-    let text = text_of(alloc, statement)?;
-    let copy = statement.copy(alloc)?;
-    if is_read_back(alloc, text.as_str(), &copy) {
-        Ok(text)
-    } else {
-        Ok(String::from_str(alloc, "another statement")?)
-    }
-}
-
-fn reading(alloc: Global, text: &str) -> Result<String, Fail> {
-    match parse(alloc, text, 1000) {
-        Ok(statement) => written(alloc, &statement),
-        Err(refusal) => refusal_text(alloc, refusal),
+fn refusal_of(alloc: Global, text: &str) -> Result<String, Fail> {
+    match parse(alloc, text, 1000).err() {
+        None => Ok(String::from_str(alloc, "a statement")?),
+        Some(refusal) => refusal_text(alloc, refusal),
     }
 }
 
 #[test]
-fn texts_are_statements_or_have_their_refusal(rt: HostRuntime) -> Result<(), Fail> {
-    for case in USERS.iter().chain(PRIVILEGES.iter()) {
-        let read = reading(rt.alloc(), case.text)?;
-        assert_eq!(rt; read.as_str(), case.read, "{}", case.text);
+fn other_texts_have_their_refusal(rt: HostRuntime) -> Result<(), Fail> {
+    for case in &REFUSED {
+        let refusal = refusal_of(rt.alloc(), case.text)?;
+        assert_eq!(rt; refusal.as_str(), case.read, "{}", case.text);
     }
     Ok(())
 }
