@@ -1,13 +1,14 @@
 //! How many rows of the opening a grant or a revoke takes and gives.
-use crate::texts::account;
-use acl_names::{AuthId, Ident};
+ghost use Rattle.std.specs.Prelude.{◌≡◌, IfOk};
+ghost use Rattle.acl_model.specs.State.{root as root_account};
+
+use acl_names::{AuthId, HostText, Ident, UserName};
 use acl_rows::{Row, Rows};
 use acl_stmt::{Limit, Statement};
 use grant_effects::GrantParts;
 use grant_parse::parse;
 use priv_sets::Static;
 use std::alloc::Global;
-use std::process::Abort;
 use std::test::Fail;
 
 // SELECT stays restricted on the schema `mysql`.
@@ -54,11 +55,20 @@ static EFFECTS: [Effect; 22] = [
     Effect { statement: "REVOKE ALL PRIVILEGES, GRANT OPTION FROM root@localhost", has_limit: false, is_restricted: false, effect: "71" },
 ];
 
+fn root(alloc: Global) -> Result<AuthId, Fail>
+    ensures { IfOk result (λ account. account ≡ root_account) }
+{
+    let user = UserName::read(alloc, "root")?;
+    let host = HostText::read(alloc, "localhost")?;
+    Ok(AuthId { user, host })
+}
+
 #[tactic(auto, unfolding(priv_sets::specs::Levels::has_level))]
-fn restricted(rt: &impl Abort, alloc: Global) -> Result<Rows, Fail> {
+fn restricted(alloc: Global) -> Result<Rows, Fail> {
     let mut rows = Rows::opening(alloc)?;
-    let root = account(rt, alloc, "root")?;
-    rows.put(Row::Restriction(root, 0, Ident::read(alloc, "mysql")?))?;
+    let account = root(alloc)?;
+    let schema = Ident::read(alloc, "mysql")?;
+    rows.put(Row::Restriction(account, 0, schema))?;
     Ok(rows)
 }
 
@@ -133,7 +143,7 @@ fn grants_and_revokes_take_and_give_rows(rt: HostRuntime) -> Result<(), Fail> {
     let limits = [limit(alloc)?];
     for case in &EFFECTS {
         let rows = if case.is_restricted {
-            restricted(&rt, alloc)?
+            restricted(alloc)?
         } else {
             Rows::opening(alloc)?
         };
