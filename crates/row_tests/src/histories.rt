@@ -267,11 +267,16 @@ fn count_of(row: &Row, rows: &[Row]) -> usize {
     count
 }
 
+// How many rows are the copy of this one.
+fn copies_of(alloc: Global, row: &Row, rows: &[Row]) -> Result<usize, Fail> {
+    let copy = row.copy(alloc)?;
+    Ok(count_of(&copy, rows))
+}
+
 // Whether the copy of each row is one row, and no other.
 fn differ(alloc: Global, rows: &[Row]) -> Result<bool, Fail> {
     for row in rows {
-        let copy = row.copy(alloc)?;
-        if count_of(&copy, rows) != 1 {
+        if copies_of(alloc, row, rows)? != 1 {
             return Ok(false);
         }
     }

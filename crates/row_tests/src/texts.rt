@@ -1,5 +1,5 @@
 //! Statements and requests from their texts.
-ghost use Rattle.std.specs.Prelude.{[], IfOk, IfSome, IsTrue};
+ghost use Rattle.std.specs.Prelude.{◌≡◌, [], IfOk, IfSome, IsTrue};
 ghost use Rattle.acl_apply.specs.Built.{is_built};
 ghost use Rattle.acl_stmt.specs.Entries.{is_entry};
 ghost use Rattle.acl_stmt.specs.Statements.{is_statement};
@@ -41,6 +41,7 @@ fn carried_out(statement: Statement) -> Option<Statement>
 
 fn entry_of(alloc: Global, by: AuthId, statement: Statement) -> Entry
     requires { IsTrue (is_entry [] statement) }
+    ensures { result.statement ≡ statement }
 {
     Entry {
         caller: Caller(0),
