@@ -3,7 +3,7 @@ use entry_codec::text_of;
 use grant_lex::tokens;
 use grant_parse::parse;
 use grant_refusal::ParseRefusal;
-use std::alloc::{AllocError, Global};
+use std::alloc::Global;
 use std::process::Abort;
 use std::test::Fail;
 
@@ -140,23 +140,22 @@ static REFUSED: [Text; 66] = [
     Text { text: "GRANT SELECT ON s.t TO to", read: "syntax at 23" },
 ];
 
-// Whether the text is a statement with that canonical text, which is read as the same statement.
-fn is_read_back(alloc: Global, text: &str, wanted: &str) -> Result<bool, AllocError> {
-    let Ok(statement) = parse(alloc, text, 1000) else {
-        return Ok(false);
-    };
-    let written = text_of(alloc, &statement)?;
-    let Ok(again) = parse(alloc, written.as_str(), 1000) else {
-        return Ok(false);
-    };
-    Ok(written.as_str() == wanted && again == statement)
+// The canonical text of the statement.
+fn written(alloc: Global, text: &str) -> Result<String, Fail> {
+    let statement = parse(alloc, text, 1000)?;
+    Ok(text_of(alloc, &statement)?)
 }
 
-// Whether the text is a statement whose copy is the same.
-fn is_copied(alloc: Global, text: &str) -> Result<bool, AllocError> {
-    let Ok(statement) = parse(alloc, text, 1000) else {
-        return Ok(false);
-    };
+// Whether both texts are one statement.
+fn are_one(alloc: Global, text: &str, other: &str) -> Result<bool, Fail> {
+    let statement = parse(alloc, text, 1000)?;
+    let again = parse(alloc, other, 1000)?;
+    Ok(statement == again)
+}
+
+// Whether a copy of the statement is the same.
+fn is_copied(alloc: Global, text: &str) -> Result<bool, Fail> {
+    let statement = parse(alloc, text, 1000)?;
     let copy = statement.copy(alloc)?;
     Ok(copy == statement)
 }
@@ -164,11 +163,9 @@ fn is_copied(alloc: Global, text: &str) -> Result<bool, AllocError> {
 #[test]
 fn statements_are_read_back(rt: HostRuntime) -> Result<(), Fail> {
     for case in &READ {
-        assert!(rt;
-            is_read_back(rt.alloc(), case.text, case.read)?,
-            "{}",
-            case.text
-        );
+        let written = written(rt.alloc(), case.text)?;
+        assert_eq!(rt; written.as_str(), case.read, "{}", case.text);
+        assert!(rt; are_one(rt.alloc(), case.text, case.read)?, "{}", case.text);
         assert!(rt; is_copied(rt.alloc(), case.text)?, "{}", case.text);
     }
     Ok(())
