@@ -154,18 +154,28 @@ fn check(alloc: Global, map: &PrivMap, acting: &Acting, text: &str) -> Result<St
     Ok(format!(in alloc; "{answer}\n")?)
 }
 
+fn answers_of(alloc: Global, map: &PrivMap, acting: &Acting, checks: &str) -> Result<String, Fail> {
+    let mut answers = String::new(alloc);
+    for text in checks.lines() {
+        let answer = check(alloc, map, acting, text)?;
+        answers.push_str(answer.as_str())?;
+    }
+    Ok(answers)
+}
+
+// The answers to the checks.
+fn answers_after(rt: &impl Abort, alloc: Global, case: &Session) -> Result<String, Fail> {
+    let mut map = PrivMap::opening(alloc)?;
+    run(rt, alloc, &mut map, case.before)?;
+    let acting = session_of(rt, alloc, &map)?;
+    run(rt, alloc, &mut map, case.after)?;
+    answers_of(alloc, &map, &acting, case.checks)
+}
+
 #[test]
 fn a_check_names_what_is_missing(rt: HostRuntime) -> Result<(), Fail> {
-    let alloc = rt.alloc();
     for case in &SESSIONS {
-        let mut map = PrivMap::opening(alloc)?;
-        run(&rt, alloc, &mut map, case.before)?;
-        let acting = session_of(&rt, alloc, &map)?;
-        run(&rt, alloc, &mut map, case.after)?;
-        let mut answers = String::new(alloc);
-        for text in case.checks.lines() {
-            answers.push_str(check(alloc, &map, &acting, text)?.as_str())?;
-        }
+        let answers = answers_after(&rt, rt.alloc(), case)?;
         assert_eq!(rt; answers.as_str(), case.answers);
     }
     Ok(())
