@@ -1,4 +1,6 @@
 pub mod Callers
+pub mod ExampleLogins
+pub mod ExampleLogs
 pub mod Histories
 pub mod Items
 pub mod Logins
