@@ -1,0 +1,5 @@
+pub mod Later
+pub mod Onward
+pub mod Points
+pub mod Reports
+pub mod Working

@@ -1,0 +1,6 @@
+pub mod Commands
+pub mod Core
+pub mod Lines
+pub mod Report
+pub mod Rules
+pub mod Sessions
