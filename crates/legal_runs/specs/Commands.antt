@@ -27,7 +27,6 @@ pub data Command : Type 0 where
 -- what SHOW GRANTS is answered
 pub data Shown : Type 0 where
   Lines : List (List ℕ) → Shown
-  MayNotSee : Missing → Shown
   NoSuchAccount : AuthId → Shown
   RoleNotGranted : AuthId → Shown
 
@@ -39,6 +38,8 @@ pub data Answer : Type 0 where
   Allowed : Answer
   Denied : Missing → Answer
   Showing : Shown → Answer
+  -- SHOW GRANTS of another account, by a session that may not see it
+  MayNotSee : Missing → Answer
   Reached : Answer
   NotYet : Answer
   -- the statement is accepted, and published or not yet

@@ -9,7 +9,7 @@ use Rattle.book_log.specs.Items.Reply.{ToLogin, ToStatement}
 use Rattle.legal_runs.specs.Commands.{Answer, Command}
 use Rattle.legal_runs.specs.Commands.Answer.{Bye, Connected, Done, NoEntry, NoMemory, NotConnected, NotYet, Reached, RefusedLogin, RefusedStatement, Schema}
 use Rattle.legal_runs.specs.Commands.Command.{Await, Check, Connect, Disconnect, Issue, SetRole, ShowGrants, UseSchema}
-use Rattle.legal_runs.specs.Rules.{IsActing, IsCheckAnswer, IsRolesAnswer, IsShowAnswer, Setting}
+use Rattle.legal_runs.specs.Rules.{IsActing, IsCheckAnswer, IsRolesAnswer, IsShowAnswer, Setting, completed}
 use Rattle.legal_runs.specs.Sessions.{Part, Session, Views, Who}
 use Rattle.legal_runs.specs.Sessions.Part.{Called, Heard, Saw}
 use Rattle.priv_map.specs.declared.acting.Acting.{Acting}
@@ -92,8 +92,8 @@ IsAnsweredAs on at (Some who) Disconnect parts answer = (parts ≡ []) × (answe
 IsAnsweredAs on at (Some who) (UseSchema schema) parts answer = IsOneRead parts × (answer ≡ Schema schema)
 IsAnsweredAs on at (Some who) (SetRole form) parts answer = IsOneRead parts × IsRolesAnswer on at.present who form answer
 IsAnsweredAs on at (Some who) (Check privileges target) parts answer = IsOneRead parts × IsCheckAnswer on at who privileges target answer
-IsAnsweredAs on at (Some who) (ShowGrants account roles) parts answer = IsOneRead parts × IsShowAnswer on at.present who account roles answer
-IsAnsweredAs on at (Some who) (Issue statement) parts answer = IsIssued on at who statement parts answer
+IsAnsweredAs on at (Some who) (ShowGrants account roles) parts answer = IsOneRead parts × IsShowAnswer on at who account roles answer
+IsAnsweredAs on at (Some who) (Issue statement) parts answer = IsIssued on at who (completed who.account statement) parts answer
 
 -- the command looks at what is published
 abbrev pub Reads : Option Who → Command → Type 0
