@@ -1,3 +1,4 @@
+pub mod Known
 pub mod Later
 pub mod Onward
 pub mod Points

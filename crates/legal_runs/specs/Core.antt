@@ -9,7 +9,7 @@ use Rattle.book_log.specs.Pasts.{Past, log_of}
 use Rattle.legal_runs.specs.Commands.{Answer, Command}
 use Rattle.legal_runs.specs.Lines.{IsWhole}
 use Rattle.legal_runs.specs.Rules.{Setting}
-use Rattle.legal_runs.specs.Sessions.{Part, Session, after_line, fresh, views}
+use Rattle.legal_runs.specs.Sessions.{Part, Session, after_line, fresh, now_after, views}
 use Rattle.legal_runs.specs.Sessions.Part.{Called, Heard, Saw}
 
 -- what a session does: a call with its reply, at which a login chose this account; a look at what is published; being told that
@@ -109,3 +109,7 @@ MayHappen on events (By caller act) = MayAct on events caller act
 abbrev pub IsRun : Setting → List Event → Type 0
 IsRun on [] = Unit {0}
 IsRun on (event ∷ events) = IsRun on events × MayHappen on events event
+
+-- how many statements a session knows, within a line too
+abbrev pub known : Setting → ℕ → List Event → ℕ
+known on session events = now_after (session_after (worker_of on session events).turns).now (worker_of on session events).parts

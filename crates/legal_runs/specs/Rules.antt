@@ -1,6 +1,6 @@
 -- The answers of lines by what they read (MySQL 8.0 Reference Manual, "Access Control, Stage 2: Request Verification", "SET ROLE
 -- Statement", "When Privilege Changes Take Effect").
-use Rattle.std.specs.Prelude.{◌≡◌, ℕ, Bool, true, false, not, ◌&&◌, IsTrue, List, [], ◌∷◌, Option, Some, None, AllPairs, codes, refl}
+use Rattle.std.specs.Prelude.{◌≡◌, Bool, false, not, ◌&&◌, IsTrue, List, [], Option, Some, None, AllPairs, codes, refl}
 use Rattle.std.specs.Bool.{MatchBool}
 use Rattle.std.specs.List.{find}
 use Rattle.std.specs.declared.cmp.Ordering.TheVariants.{Less}

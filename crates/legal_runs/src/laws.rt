@@ -1,7 +1,7 @@
 //! What follows from the definitions, for every run. Each function does nothing when it runs: its contract is the law.
-ghost use Rattle.std.specs.Prelude.{List};
+ghost use Rattle.std.specs.Prelude.{◌≡◌, ◌≤◌, ◌∷◌, ◌++◌, ℕ, List, length, take};
 ghost use Rattle.legal_runs.specs.Commands.{Command};
-ghost use Rattle.legal_runs.specs.Core.{Event};
+ghost use Rattle.legal_runs.specs.Core.{Event, IsRun, history_of, known, published, session_after, worker_of};
 ghost use Rattle.legal_runs.specs.Report.{IsLegalReport, IsWholeRun, report_of};
 ghost use Rattle.legal_runs.specs.Rules.{Setting};
 
@@ -9,4 +9,18 @@ ghost use Rattle.legal_runs.specs.Rules.{Setting};
 pub fn runs_are_legal()
     ensures { (on : Setting) (script : List (List Command)) (events : List Event) → IsWholeRun on script events →
         IsLegalReport on script (report_of on script events) }
+{}
+
+/// The law that what a session knows is published, never falls, and stays the same front of the one history whatever comes
+/// later; and that it knows all that it has read.
+pub fn sessions_know_fronts()
+    ensures published { (on : Setting) (session : ℕ) (events : List Event) → IsRun on events →
+        (known on session events ≤ published on events) × (published on events ≤ length (history_of on events)) }
+    ensures front { (on : Setting) (session : ℕ) (later events : List Event) → IsRun on events →
+        take (known on session events) (history_of on (later ++ events)) ≡ take (known on session events) (history_of on events) }
+    ensures onward { (on : Setting) (session : ℕ) (events : List Event) (event : Event) → IsRun on (event ∷ events) →
+        known on session events ≤ known on session (event ∷ events) }
+    ensures read { (on : Setting) (session : ℕ) (events : List Event) → IsRun on events →
+        ((session_after (worker_of on session events).turns).global ≤ known on session events)
+        × ((session_after (worker_of on session events).turns).schema ≤ known on session events) }
 {}

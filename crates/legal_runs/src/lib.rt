@@ -6,4 +6,4 @@
 
 mod laws;
 
-pub use laws::runs_are_legal;
+pub use laws::{runs_are_legal, sessions_know_fronts};
