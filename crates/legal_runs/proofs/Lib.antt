@@ -3,4 +3,5 @@ pub mod Later
 pub mod Onward
 pub mod Points
 pub mod Reports
+pub mod Told
 pub mod Working

@@ -38,7 +38,7 @@ line_now (SetRole form) parts answer session = roles_now (now_after session.now 
 line_now _ parts answer session = refl
 
 -- a login that is let in is told of at least its position
-IsTold : ℕ → List Part → Type 0
+unfoldable pub IsTold : ℕ → List Part → Type 0
 IsTold now parts = (login : Login) → login_in (calls_in parts) ≡ Some login → login.position ≤ now_after now parts
 
 entered_told : (now : ℕ) (knock : Knock) (parts : List Part) (answer : Answer) → IsEntered knock parts answer → IsTold now parts
@@ -72,7 +72,7 @@ given_up_told now who command parts answer given = subst (λ (parts : List Part)
     told login is =
         let none : None ≡ Some login = sym (ap login_in (no_calls given.seen)) ∙ is in absurd (cc)
 
-connect_told : (on : Setting) (at : Views) (session : Session) (knock : Knock) (parts : List Part) (answer : Answer) →
+pub connect_told : (on : Setting) (at : Views) (session : Session) (knock : Knock) (parts : List Part) (answer : Answer) →
     IsWhole on at session (Connect knock) parts answer → IsTold session.now parts
 unfolding IsWhole
 connect_told on at session knock parts answer (inl (inl entered)) = entered_told session.now knock parts answer entered

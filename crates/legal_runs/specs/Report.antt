@@ -1,17 +1,20 @@
 -- Legal reports: what they say is right over the one history in which they end.
-use Rattle.std.specs.Prelude.{◌≡◌, ℕ, suc, max, ◌<◌, ◌≤◌, List, [], ◌∷◌, ◌++◌, length, All, None}
+use Rattle.std.specs.Prelude.{◌≡◌, ℕ, suc, max, ◌<◌, ◌≤◌, true, List, [], ◌∷◌, ◌++◌, length, All, Option, Some, None}
+use Rattle.std.specs.Option.{option_map}
 use Rattle.acl_stmt.specs.declared.entry.Entry.{Entry}
 use Rattle.book_log.specs.Callers.{AreNumberedFrom, calls}
 use Rattle.book_log.specs.Histories.{history}
-use Rattle.book_log.specs.Items.{Item}
+use Rattle.book_log.specs.Items.{Item, Login}
 use Rattle.book_log.specs.Logs.{IsLegalLog, with_end}
 use Rattle.book_log.specs.Pasts.{log_of}
 use Rattle.legal_runs.specs.Commands.{Answer, Command}
+use Rattle.legal_runs.specs.Commands.Answer.{Done}
+use Rattle.legal_runs.specs.Commands.Command.{Connect, Issue}
 use Rattle.legal_runs.specs.Core.{Event, IsRun, Turn, past_of, session_after, worker_of}
 use Rattle.legal_runs.specs.Core.Event.{By, Publish}
 use Rattle.legal_runs.specs.Lines.{IsWhole}
 use Rattle.legal_runs.specs.Rules.{Setting}
-use Rattle.legal_runs.specs.Sessions.{Part, Session, calls_in, views}
+use Rattle.legal_runs.specs.Sessions.{Part, Session, calls_in, login_in, views}
 use Rattle.legal_runs.specs.Sessions.Part.{Called, Heard, Saw}
 
 -- an answer, with what the session had read and what it knew after the line
@@ -104,3 +107,9 @@ pub record IsWholeRun (on : Setting) (script : List (List Command)) (events : Li
   pub is_run : IsRun on events
   pub are_of : AreOf (length script) events
   pub answered : HaveAnswered on 0 script events
+
+-- of how many statements a session was told by a line: those that a login was let in by, or those up to one that was published
+abbrev pub told_of : Command → List Item → Answer → Option ℕ
+told_of (Connect knock) items answer = option_map (λ (login : Login). login.position) (login_in items)
+told_of (Issue statement) items (Done position true) = Some position
+told_of _ items answer = None

@@ -1,9 +1,11 @@
 //! What follows from the definitions, for every run. Each function does nothing when it runs: its contract is the law.
-ghost use Rattle.std.specs.Prelude.{◌≡◌, ◌≤◌, ◌∷◌, ◌++◌, ℕ, List, length, take};
+ghost use Rattle.std.specs.Prelude.{◌≡◌, ◌≤◌, ◌∷◌, ◌++◌, ℕ, List, Some, length, take};
+ghost use Rattle.acl_stmt.specs.declared.entry.Entry.{Entry};
 ghost use Rattle.legal_runs.specs.Commands.{Command};
-ghost use Rattle.legal_runs.specs.Core.{Event, IsRun, history_of, known, published, session_after, worker_of};
-ghost use Rattle.legal_runs.specs.Report.{IsLegalReport, IsWholeRun, report_of};
+ghost use Rattle.legal_runs.specs.Core.{Event, IsRun, Turn, history_of, known, published, session_after, worker_of};
+ghost use Rattle.legal_runs.specs.Report.{AreLegal, IsLegalReport, IsWholeRun, report_of, told_of};
 ghost use Rattle.legal_runs.specs.Rules.{Setting};
+ghost use Rattle.legal_runs.specs.Sessions.{calls_in};
 
 /// The law that each run in which the lines of all sessions are whole has a legal report.
 pub fn runs_are_legal()
@@ -23,4 +25,14 @@ pub fn sessions_know_fronts()
     ensures read { (on : Setting) (session : ℕ) (events : List Event) → IsRun on events →
         ((session_after (worker_of on session events).turns).global ≤ known on session events)
         × ((session_after (worker_of on session events).turns).schema ≤ known on session events) }
+{}
+
+/// The law that a session goes onward through legal lines, never beyond the final history, and is never behind what it was told.
+pub fn legal_sessions_go_onward()
+    ensures onward { (on : Setting) (entries : List Entry) (turn : Turn) (turns : List Turn) → AreLegal on entries (turn ∷ turns) →
+        ((session_after turns).now ≤ (session_after (turn ∷ turns)).now)
+        × ((session_after (turn ∷ turns)).now ≤ length entries) }
+    ensures told { (on : Setting) (entries : List Entry) (later : List Turn) (turn : Turn) (turns : List Turn) (told : ℕ) →
+        AreLegal on entries (later ++ turn ∷ turns) → told_of turn.command (calls_in turn.parts) turn.answer ≡ Some told →
+        told ≤ (session_after (later ++ turn ∷ turns)).now }
 {}
