@@ -1,3 +1,4 @@
+pub mod Calls
 pub mod Known
 pub mod Later
 pub mod Onward

@@ -8,7 +8,7 @@ use Rattle.book_log.specs.Items.{Item, Login}
 use Rattle.book_log.specs.Logs.{IsLegalLog, with_end}
 use Rattle.book_log.specs.Pasts.{log_of}
 use Rattle.legal_runs.specs.Commands.{Answer, Command}
-use Rattle.legal_runs.specs.Commands.Answer.{Done}
+use Rattle.legal_runs.specs.Commands.Answer.{Done, NoMemory, NotConnected}
 use Rattle.legal_runs.specs.Commands.Command.{Connect, Issue}
 use Rattle.legal_runs.specs.Core.{Event, IsRun, Turn, past_of, session_after, worker_of}
 use Rattle.legal_runs.specs.Core.Event.{By, Publish}
@@ -113,3 +113,12 @@ abbrev pub told_of : Command → List Item → Answer → Option ℕ
 told_of (Connect knock) items answer = option_map (λ (login : Login). login.position) (login_in items)
 told_of (Issue statement) items (Done position true) = Some position
 told_of _ items answer = None
+
+-- how many calls a line makes: a login makes one, and a statement of a connected session, where memory was found
+abbrev pub call_count : Command → Answer → ℕ
+call_count (Connect knock) NoMemory = 0
+call_count (Connect knock) _ = 1
+call_count (Issue statement) NotConnected = 0
+call_count (Issue statement) NoMemory = 0
+call_count (Issue statement) _ = 1
+call_count _ _ = 0

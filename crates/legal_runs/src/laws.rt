@@ -1,11 +1,12 @@
 //! What follows from the definitions, for every run. Each function does nothing when it runs: its contract is the law.
 ghost use Rattle.std.specs.Prelude.{◌≡◌, ◌≤◌, ◌∷◌, ◌++◌, ℕ, List, Some, length, take};
 ghost use Rattle.acl_stmt.specs.declared.entry.Entry.{Entry};
-ghost use Rattle.legal_runs.specs.Commands.{Command};
+ghost use Rattle.legal_runs.specs.Commands.{Answer, Command};
 ghost use Rattle.legal_runs.specs.Core.{Event, IsRun, Turn, history_of, known, published, session_after, worker_of};
-ghost use Rattle.legal_runs.specs.Report.{AreLegal, IsLegalReport, IsWholeRun, report_of, told_of};
+ghost use Rattle.legal_runs.specs.Lines.{IsWhole};
+ghost use Rattle.legal_runs.specs.Report.{AreLegal, IsLegalReport, IsWholeRun, call_count, report_of, told_of};
 ghost use Rattle.legal_runs.specs.Rules.{Setting};
-ghost use Rattle.legal_runs.specs.Sessions.{calls_in};
+ghost use Rattle.legal_runs.specs.Sessions.{Part, Session, Views, calls_in};
 
 /// The law that each run in which the lines of all sessions are whole has a legal report.
 pub fn runs_are_legal()
@@ -35,4 +36,11 @@ pub fn legal_sessions_go_onward()
     ensures told { (on : Setting) (entries : List Entry) (later : List Turn) (turn : Turn) (turns : List Turn) (told : ℕ) →
         AreLegal on entries (later ++ turn ∷ turns) → told_of turn.command (calls_in turn.parts) turn.answer ≡ Some told →
         told ≤ (session_after (later ++ turn ∷ turns)).now }
+{}
+
+/// The law that a line makes just the calls of its command: one for a login and one for a statement of a connected session,
+/// unless it found no memory, and none for any other line.
+pub fn lines_call_once()
+    ensures { (on : Setting) (at : Views) (session : Session) (command : Command) (parts : List Part) (answer : Answer) →
+        IsWhole on at session command parts answer → length (calls_in parts) ≡ call_count command answer }
 {}

@@ -6,4 +6,4 @@
 
 mod laws;
 
-pub use laws::{legal_sessions_go_onward, runs_are_legal, sessions_know_fronts};
+pub use laws::{legal_sessions_go_onward, lines_call_once, runs_are_legal, sessions_know_fronts};
