@@ -2,14 +2,16 @@
 //! nothing when it runs: its contract is the law.
 ghost use Rattle.std.specs.Prelude.{◌≡◌, ◌≢◌, ◌≤ℤ◌, ℕ, ℤ, Bool, List, [], ◌∷◌, ◌++◌, length, Option, Some, None, Ok};
 ghost use Rattle.std.specs.Option.{ForSome};
+ghost use Rattle.acl_model.specs.State.{State};
 ghost use Rattle.acl_model.specs.declared.account_data.AccountData.{AccountData};
 ghost use Rattle.acl_names.specs.declared.auth.AuthId.{AuthId};
 ghost use Rattle.acl_stmt.specs.declared.entry.Entry.{Entry};
 ghost use Rattle.acl_stmt.specs.declared.statement.Statement.{Statement};
 ghost use Rattle.book_log.specs.Callers.{AreCounted, AreNumberedFrom, calls};
 ghost use Rattle.book_log.specs.Histories.{history};
-ghost use Rattle.book_log.specs.Items.{Item, asked};
+ghost use Rattle.book_log.specs.Items.{Item, Knock, asked};
 ghost use Rattle.book_log.specs.Items.Reply.{ToStatement};
+ghost use Rattle.book_log.specs.Logins.{IsChosenAccount};
 ghost use Rattle.book_log.specs.Logs.{IsLegalLog, IsLegalPast, IsOneMore, IsReply, Origin, state_at, with_end};
 ghost use Rattle.book_log.specs.Pasts.{Past, events_of, log_of, moment_of};
 ghost use Rattle.login_throttle.specs.History.{IsHistory, IsStampOf, blocking_failure};
@@ -66,4 +68,10 @@ pub fn stamps_count_the_log()
 /// The law that the calls of a caller are numbered from 0 without gaps, where each has the number of those before it.
 pub fn calls_have_no_gaps()
     ensures { (log : List Item) (caller : ℕ) → AreCounted log → AreNumberedFrom 0 (calls caller log) }
+{}
+
+/// The law that a login chooses one account at most, whatever list the standing accounts are looked up in.
+pub fn logins_choose_once()
+    ensures { (state : State) (knock : Knock) (one other : Option AuthId) →
+        IsChosenAccount state knock one → IsChosenAccount state knock other → one ≡ other }
 {}

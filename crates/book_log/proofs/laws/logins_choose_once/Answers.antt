@@ -1,0 +1,5 @@
+use Rattle.book_log.proofs.Chosen.{chosen_once}
+use Rattle.book_log.proofs.laws.logins_choose_once.Goals as goal
+
+pub returns : goal.returns
+returns c = chosen_once
