@@ -8,7 +8,7 @@ use Rattle.book_log.specs.Items.{Item}
 use Rattle.book_log.specs.Logs.{IsLegalLog, IsLegalPast, IsReply, Origin}
 use Rattle.book_log.specs.Pasts.{Past, log_of}
 
-no_longer : {A : Type 0} (front : List A) (x : A) (rest : List A) → [] ≡ front ++ x ∷ rest → ⊥
+pub no_longer : {A : Type 0} (front : List A) (x : A) (rest : List A) → [] ≡ front ++ x ∷ rest → ⊥
 no_longer front x rest is = let sum = length-append front (x ∷ rest) in let same = ap length is in omega (arith, sum, same)
 
 -- what stands before the last item

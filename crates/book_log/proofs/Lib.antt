@@ -4,6 +4,7 @@ pub mod Ends
 pub mod Fronts
 pub mod Grows
 pub mod Kept
+pub mod Noting
 pub mod Numbers
 pub mod Stamps
 pub mod Standing

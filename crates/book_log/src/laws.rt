@@ -70,8 +70,11 @@ pub fn calls_have_no_gaps()
     ensures { (log : List Item) (caller : ℕ) → AreCounted log → AreNumberedFrom 0 (calls caller log) }
 {}
 
-/// The law that a login chooses one account at most, whatever list the standing accounts are looked up in.
+/// The law that a login chooses one account at most, whatever list the standing accounts are looked up in, and that a legal
+/// log therefore says in one way which accounts its logins chose.
 pub fn logins_choose_once()
-    ensures { (state : State) (knock : Knock) (one other : Option AuthId) →
+    ensures one { (state : State) (knock : Knock) (one other : Option AuthId) →
         IsChosenAccount state knock one → IsChosenAccount state knock other → one ≡ other }
+    ensures log { (origin : Origin) (one other : Past) → IsLegalPast origin one → IsLegalPast origin other →
+        log_of one ≡ log_of other → one ≡ other }
 {}
