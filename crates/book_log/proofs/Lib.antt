@@ -1,0 +1,10 @@
+pub mod Chosen
+pub mod Counted
+pub mod Ends
+pub mod Fronts
+pub mod Grows
+pub mod Kept
+pub mod Noting
+pub mod Numbers
+pub mod Stamps
+pub mod Standing

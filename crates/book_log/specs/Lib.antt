@@ -1,0 +1,9 @@
+pub mod Callers
+pub mod ExampleLogins
+pub mod ExampleLogs
+pub mod Histories
+pub mod Items
+pub mod Logins
+pub mod Logs
+pub mod Pasts
+pub mod Statements

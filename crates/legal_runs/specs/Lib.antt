@@ -1,0 +1,7 @@
+pub mod Commands
+pub mod Core
+pub mod ExampleRuns
+pub mod Lines
+pub mod Report
+pub mod Rules
+pub mod Sessions
