@@ -163,13 +163,33 @@ fn answers_of(alloc: Global, map: &PrivMap, acting: &Acting, checks: &str) -> Re
     Ok(answers)
 }
 
-// The answers to the checks.
+// The session that logs in after the first statements.
+fn session_after(
+    rt: &impl Abort,
+    alloc: Global,
+    map: &mut PrivMap,
+    before: &str,
+) -> Result<Acting, Fail> {
+    run(rt, alloc, map, before)?;
+    session_of(rt, alloc, map)
+}
+
+// The answers to its checks after the later ones.
+fn answers_on(
+    rt: &impl Abort,
+    alloc: Global,
+    map: &mut PrivMap,
+    case: &Session,
+) -> Result<String, Fail> {
+    let acting = session_after(rt, alloc, map, case.before)?;
+    run(rt, alloc, map, case.after)?;
+    answers_of(alloc, map, &acting, case.checks)
+}
+
+// The same from the opening on.
 fn answers_after(rt: &impl Abort, alloc: Global, case: &Session) -> Result<String, Fail> {
     let mut map = PrivMap::opening(alloc)?;
-    run(rt, alloc, &mut map, case.before)?;
-    let acting = session_of(rt, alloc, &map)?;
-    run(rt, alloc, &mut map, case.after)?;
-    answers_of(alloc, &map, &acting, case.checks)
+    answers_on(rt, alloc, &mut map, case)
 }
 
 #[test]

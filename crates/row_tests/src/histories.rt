@@ -351,11 +351,21 @@ fn answers_of(
 }
 
 // Whether the statements are answered so and leave these rows.
+fn are_answered(
+    rt: &impl Abort,
+    alloc: Global,
+    rows: &mut Rows,
+    case: &History,
+) -> Result<bool, Fail> {
+    let answers = answers_of(rt, alloc, rows, case.statements)?;
+    let left = rows_text(alloc, rows)?;
+    Ok(answers.as_str() == case.answers && left.as_str() == case.rows)
+}
+
+// The same from the opening on.
 fn is_as_told(rt: &impl Abort, alloc: Global, case: &History) -> Result<bool, Fail> {
     let mut rows = Rows::opening(alloc)?;
-    let answers = answers_of(rt, alloc, &mut rows, case.statements)?;
-    let left = rows_text(alloc, &rows)?;
-    Ok(answers.as_str() == case.answers && left.as_str() == case.rows)
+    are_answered(rt, alloc, &mut rows, case)
 }
 
 #[test]
