@@ -1,3 +1,5 @@
-pub mod Fronts
 pub mod Names
 pub mod Once
+pub mod Parts
+pub mod Places
+pub mod Written

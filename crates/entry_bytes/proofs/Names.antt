@@ -1,21 +1,17 @@
 -- Names as short texts.
-use Rattle.std.proofs.Common.{◌≡◌, ℕ, ◌+◌, ◌*◌, ◌^◌, ◌<◌, ◌≤◌, Bool, true, false, not, List, [], ◌∷◌, ◌++◌, length, Option, Some, None, Result, Ok, Err, IfErr, refl, sym, ap, subst, ◌∙◌, arith}
-use Rattle.std.specs.Result.{IsErrAnd}
-use Rattle.std.specs.Str.{IsUtf8, chars, str_to_ascii_lowercase}
+use Rattle.std.proofs.Common.{◌≡◌, ℕ, ◌*◌, ◌≤◌, Bool, true, false, List, [], ◌∷◌, length, Option, Some, None, refl, ap, arith}
+use Rattle.std.specs.Str.{IsUtf8, chars}
 use Rattle.std.proofs.lemmas.Bool.{ltb-false}
 use Rattle.std.proofs.lemmas.List.{length-append}
-use Rattle.std.proofs.lemmas.Str.{chars-encodes, encodes-chars, len_utf8_bounds, length-encode}
-use Rattle.acl_names.specs.Text.{text_eq}
+use Rattle.std.proofs.lemmas.Str.{encodes-chars, len_utf8_bounds, length-encode}
 use Rattle.acl_names.specs.Limits.{host_limit, ident_limit, user_limit}
-use Rattle.acl_names.specs.Name.{IsRefusal, ident_fault, length_fault, control_fault, name_fault}
+use Rattle.acl_names.specs.Name.{ident_fault, length_fault, control_fault, name_fault}
 use Rattle.acl_names.specs.declared.refusal.NameRefusal.{NameRefusal}
-use Rattle.acl_names.specs.declared.refusal.NameRefusal.TheVariants.{BadByte, Empty, TooLong, NoMemory}
+use Rattle.acl_names.specs.declared.refusal.NameRefusal.TheVariants.{TooLong}
 use Rattle.std.specs.Prelude.{position, nat_lt, if◌then◌else◌}
 use Rattle.std.specs.Char.{is_ascii_control}
-use Rattle.entry_bytes.proofs.Once.{short_once}
-use Rattle.entry_bytes.specs.Faults.{NoneBegins}
-use Rattle.entry_bytes.specs.Reading.{IsFieldFault, IsShort, name_field_fault}
-use Rattle.entry_bytes.specs.Spelling.{IsHost, IsSchema, IsUser, short_text}
+use Rattle.entry_bytes.specs.Texts.{IsShort}
+use Rattle.entry_bytes.specs.Spelling.{IsHost, IsSchema, IsUser}
 use lib.Utf8.{encode, encodes}
 
 four_each : (cs : List ℕ) → length (encodes cs) ≤ 4 * length cs
@@ -52,32 +48,3 @@ ident_short (b ∷ bs) utf8 e = name_short ident_limit (b ∷ bs) utf8 e
 
 pub schema_short : (schema : List ℕ) → IsSchema schema → IsShort schema
 schema_short schema is = record { utf8 = is.utf8; short = omega (arith, ident_short schema is.utf8 is.within) }
-
--- no short text, and so no name
-pub narrower : (Fits : List ℕ → Type 0) (bytes : List ℕ) → ((text : List ℕ) → Fits text → IsShort text) → NoneBegins short_text IsShort bytes → NoneBegins short_text Fits bytes
-narrower Fits bytes short none text rest fits e = none text rest (short text fits) e
-
--- a short text that is no name
-pub refused : (Fits : List ℕ → Type 0) (bytes text behind : List ℕ) → ((other : List ℕ) → Fits other → IsShort other)
-    → bytes ≡ short_text text ++ behind → IsShort text → (Fits text → ⊥) → NoneBegins short_text Fits bytes
-refused Fits bytes text behind short found is none other rest fits e =
-    let same = short_once text other behind rest is.short (short other fits).short (sym found ∙ e) in
-    none (subst Fits (sym same.0) fits)
-
--- a name that was refused for a fault
-pub faulty : (Fits : List ℕ → Type 0) (bytes text behind : List ℕ) (fault : Option NameRefusal) (refusal : NameRefusal) → ((other : List ℕ) → Fits other → IsShort other)
-    → (Fits text → fault ≡ None) → bytes ≡ short_text text ++ behind → IsShort text → IsRefusal fault refusal
-    → IsFieldFault (NoneBegins short_text Fits bytes) (name_field_fault refusal)
-faulty Fits bytes text behind fault NoMemory short within found is e = tt
-faulty Fits bytes text behind fault (BadByte offset) short within found is e = refused Fits bytes text behind short found is (λ fits. let none = within fits in absurd (cc))
-faulty Fits bytes text behind fault Empty short within found is e = refused Fits bytes text behind short found is (λ fits. let none = within fits in absurd (cc))
-faulty Fits bytes text behind fault (TooLong limit) short within found is e = refused Fits bytes text behind short found is (λ fits. let none = within fits in absurd (cc))
-
--- what a `?` passes on
-pub passed_on : {T E : Type 0} {Q : E → Type 0} (P : E → Type 0) (r : Result T E) → IsErrAnd r Q → ((y : E) → Q y → P y) → IfErr r P
-passed_on P (Ok x) is leads = tt
-passed_on P (Err y) is leads = leads y is
-
--- texts that the test tells apart are not the same
-pub unlike : (a b : List ℕ) → not (text_eq a b) ≡ true → a ≡ b → ⊥
-unlike a b differ same = ?

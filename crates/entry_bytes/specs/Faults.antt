@@ -4,7 +4,7 @@ use Rattle.acl_stmt.specs.Entries.{are_limits_in_order}
 use Rattle.acl_stmt.specs.Limits.{is_limit}
 use Rattle.acl_stmt.specs.declared.limit.Limit.{Limit}
 use Rattle.priv_sets.specs.declared.static_set.Static.{Static}
-use Rattle.entry_bytes.specs.Spelling.{HasText, IsHost, IsNumber, IsSchema, IsUser, MayStand, number_bytes, privileges_bytes, schema_bytes, short_text, statement_bytes}
+use Rattle.entry_bytes.specs.Spelling.{IsHost, IsNumber, IsSchema, IsUser, MayStand, number_bytes, privileges_bytes, schema_bytes, short_text, statement_bytes}
 
 -- the bytes begin with no value that keeps the field's rules
 abbrev pub NoneBegins : {A : Type 0} → (A → List ℕ) → (A → Type 0) → List ℕ → Type 0

@@ -1,4 +1,3 @@
 pub mod Spelling
+pub mod Texts
 pub mod Faults
-pub mod Answers
-pub mod Reading

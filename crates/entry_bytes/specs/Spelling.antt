@@ -5,7 +5,7 @@ use Rattle.std.specs.List.{AllByRecursion, flat_map}
 use Rattle.std.specs.Str.{IsUtf8}
 use Rattle.acl_names.specs.Limits.{host_limit, ident_limit, user_limit}
 use Rattle.acl_names.specs.Name.{IsLowerName, ident_fault, name_fault}
-use Rattle.acl_stmt.specs.Entries.{are_limits_in_order, is_complete, may_have_limits}
+use Rattle.acl_stmt.specs.Entries.{is_complete, may_have_limits}
 use Rattle.acl_stmt.specs.declared.entry.Entry.{Entry}
 use Rattle.acl_stmt.specs.declared.limit.Limit.{Limit}
 use Rattle.acl_stmt.specs.declared.statement.Statement.{Statement}
