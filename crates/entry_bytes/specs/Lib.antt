@@ -1,0 +1,4 @@
+pub mod Spelling
+pub mod Texts
+pub mod Faults
+pub mod Examples

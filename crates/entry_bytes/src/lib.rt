@@ -1,0 +1,8 @@
+//! Entries as bytes: one spelling each, and the one place where other bytes are no entry.
+#![tactic(auto)]
+
+mod laws;
+mod writing;
+
+pub use laws::{entries_have_one_spelling, faults_have_one_offset, spellings_have_no_fault};
+pub use writing::encode;
