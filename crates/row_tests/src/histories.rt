@@ -3,6 +3,7 @@ use crate::texts::entry;
 use acl_apply::{commit, prepare};
 use acl_names::AuthId;
 use acl_rows::{Row, Rows};
+use acl_stmt::Refusal;
 use line_answers::{Answer, LineRefusal};
 use std::alloc::Global;
 use std::process::Abort;
@@ -306,23 +307,16 @@ fn rows_text(alloc: Global, rows: &Rows) -> Result<String, Fail> {
     Ok(text)
 }
 
-fn answer(
-    rt: &impl Abort,
-    alloc: Global,
-    rows: &mut Rows,
-    text: &str,
-    position: u32,
-) -> Result<Answer, Fail> {
-    let entry = entry(rt, alloc, text)?;
-    Ok(match prepare(alloc, rows, &entry) {
-        Ok(change) => {
-            commit(rows, change);
-            Answer::Done { position }
-        }
-        Err(refusal) => Answer::Refused(LineRefusal::Statement(refusal)),
-    })
+fn done_line(alloc: Global, position: u32) -> Result<String, Fail> {
+    Ok(format!(in alloc; "done {position}\n")?)
 }
 
+fn refused_line(alloc: Global, refusal: Refusal) -> Result<String, Fail> {
+    let answer = Answer::Refused(LineRefusal::Statement(refusal));
+    Ok(format!(in alloc; "{answer}\n")?)
+}
+
+// What the statement is answered.
 fn answer_line(
     rt: &impl Abort,
     alloc: Global,
@@ -330,8 +324,14 @@ fn answer_line(
     text: &str,
     position: u32,
 ) -> Result<String, Fail> {
-    let answer = answer(rt, alloc, rows, text, position)?;
-    Ok(format!(in alloc; "{answer}\n")?)
+    let entry = entry(rt, alloc, text)?;
+    match prepare(alloc, rows, &entry) {
+        Ok(change) => {
+            commit(rows, change);
+            done_line(alloc, position)
+        }
+        Err(refusal) => refused_line(alloc, refusal),
+    }
 }
 
 fn answers_of(
