@@ -1,11 +1,8 @@
 //! Checks of requests over what an account holds and over what its session has read.
-ghost use Rattle.std.specs.Prelude.{IsTrue};
-ghost use Rattle.acl_apply.specs.Built.{is_built};
-
-use crate::texts::{account, entry, request};
+use crate::texts::{account, entry, is_done, request};
 use acl_items::Items;
 use acl_names::Ident;
-use acl_stmt::{Entry, Missing, Target};
+use acl_stmt::{Missing, Target};
 use line_answers::{Answer, Denial};
 use priv_map::{Acting, PrivMap, Verdict};
 use std::alloc::Global;
@@ -105,19 +102,6 @@ allowed
 ",
     },
 ];
-
-// Whether the statement is carried out.
-fn is_done(alloc: Global, map: &mut PrivMap, entry: &Entry) -> bool
-    requires { IsTrue (is_built entry.now.statement) }
-{
-    match map.prepare(alloc, entry) {
-        Ok(change) => {
-            map.commit(change);
-            true
-        }
-        Err(_) => false,
-    }
-}
 
 fn run(rt: &impl Abort, alloc: Global, map: &mut PrivMap, statements: &str) -> Result<(), Fail> {
     for statement in statements.lines() {

@@ -1,15 +1,14 @@
 //! Statements one after the other: how each is answered, and the rows that stand at the end.
-use crate::texts::entry;
-use acl_apply::{commit, prepare};
+use crate::texts::{entry, is_done};
 use acl_names::AuthId;
 use acl_rows::{Row, Rows};
-use acl_stmt::Refusal;
-use line_answers::{Answer, LineRefusal};
+use priv_map::PrivMap;
 use std::alloc::Global;
 use std::process::Abort;
 use std::test::Fail;
 
-// The statements, a line each; their answers, a line each; and the rows of each account but root, with root's number.
+// The statements, a line each; for each whether it is done (`d`) or refused (`r`); and the rows of each account but root,
+// with root's number.
 struct History {
     statements: &'static str,
     answers: &'static str,
@@ -27,10 +26,7 @@ static HISTORIES: [History; 11] = [
         statements: "CREATE USER x, x
 CREATE USER IF NOT EXISTS x, x
 CREATE USER y, x",
-        answers: "refused account exists `x`@`%`
-done 2
-refused account exists `x`@`%`
-",
+        answers: "rdr",
         rows: "root 72 rows
 x
 ",
@@ -42,12 +38,7 @@ GRANT SELECT ON s.* TO a
 RENAME USER a TO c, b TO a
 RENAME USER c TO a
 RENAME USER x TO y",
-        answers: "done 1
-done 2
-done 3
-refused account exists `a`@`%`
-refused no such account `x`@`%`
-",
+        answers: "dddrr",
         rows: "a
 c
  schema s 0
@@ -61,12 +52,7 @@ REVOKE SELECT ON s.* FROM u1
 REVOKE SELECT ON s.t FROM u1
 GRANT SELECT ON *.* TO u1, nobody
 REVOKE ALL PRIVILEGES, GRANT OPTION FROM nobody, u1",
-        answers: "done 1
-refused no such grant for `u1`@`%`
-refused no such grant for `u1`@`%`
-refused no such account `nobody`@`%`
-refused no such account `nobody`@`%`
-",
+        answers: "drrrr",
         rows: "root 72 rows
 u1
 u2
@@ -80,13 +66,7 @@ DROP USER x
 DROP USER x
 DROP USER IF EXISTS x
 DROP USER y, y",
-        answers: "done 1
-done 2
-done 3
-refused no such account `x`@`%`
-done 5
-refused no such account `y`@`%`
-",
+        answers: "dddrdr",
         rows: "root 72 rows
 y
  table s t 1
@@ -99,11 +79,7 @@ y
 GRANT SELECT, INSERT, DELETE ON *.* TO u1
 REVOKE INSERT, DELETE ON world.* FROM u1
 GRANT DELETE ON world.* TO u1",
-        answers: "done 1
-done 2
-done 3
-done 4
-",
+        answers: "dddd",
         rows: "root 72 rows
 u1
  global 0
@@ -121,14 +97,7 @@ REVOKE SELECT ON b.* FROM u
 GRANT SELECT ON *.* TO u
 REVOKE SELECT ON *.* FROM v
 GRANT SELECT ON a.* TO v",
-        answers: "done 1
-done 2
-done 3
-done 4
-done 5
-done 6
-done 7
-",
+        answers: "ddddddd",
         rows: "root 72 rows
 u
  global 0
@@ -145,14 +114,7 @@ REVOKE SELECT ON s.t FROM u
 REVOKE SELECT ON s.* FROM u
 REVOKE SELECT (a) ON s.t FROM u
 REVOKE SELECT (a) ON s.t FROM u",
-        answers: "done 1
-done 2
-done 3
-done 4
-done 5
-done 6
-done 7
-",
+        answers: "ddddddd",
         rows: "root 72 rows
 u
  schema s 25
@@ -167,12 +129,7 @@ GRANT EXECUTE ON FUNCTION s.F TO u WITH GRANT OPTION
 GRANT ALL ON PROCEDURE s.p TO u, v
 REVOKE GRANT OPTION ON FUNCTION s.f FROM u
 REVOKE ALL ON PROCEDURE s.p FROM v",
-        answers: "done 1
-done 2
-done 3
-done 4
-done 5
-",
+        answers: "ddddd",
         rows: "root 72 rows
 u
  function s f 17
@@ -187,12 +144,7 @@ GRANT ALL ON *.* TO u WITH GRANT OPTION
 GRANT SELECT ON s.* TO v
 REVOKE ALL PRIVILEGES, GRANT OPTION FROM u, v
 REVOKE ROLE_ADMIN, SELECT, GRANT OPTION ON *.* FROM root@localhost",
-        answers: "done 1
-done 2
-done 3
-done 4
-done 5
-",
+        answers: "ddddd",
         rows: "root 49 rows
 u
 v
@@ -204,12 +156,7 @@ GRANT ROLE_ADMIN, SELECT ON *.* TO u WITH GRANT OPTION
 GRANT AUDIT_ADMIN ON *.* TO u
 REVOKE SELECT ON s.* FROM u
 REVOKE ALL ON *.* FROM root@localhost",
-        answers: "done 1
-done 2
-done 3
-done 4
-done 5
-",
+        answers: "ddddd",
         rows: "root 2 rows
 u
  global 0
@@ -307,45 +254,26 @@ fn rows_text(alloc: Global, rows: &Rows) -> Result<String, Fail> {
     Ok(text)
 }
 
-fn done_line(alloc: Global, position: u32) -> Result<String, Fail> {
-    Ok(format!(in alloc; "done {position}\n")?)
-}
-
-fn refused_line(alloc: Global, refusal: Refusal) -> Result<String, Fail> {
-    let answer = Answer::Refused(LineRefusal::Statement(refusal));
-    Ok(format!(in alloc; "{answer}\n")?)
-}
-
-// What the statement is answered.
-fn answer_line(
+fn is_carried_out(
     rt: &impl Abort,
     alloc: Global,
-    rows: &mut Rows,
+    map: &mut PrivMap,
     text: &str,
-    position: u32,
-) -> Result<String, Fail> {
+) -> Result<bool, Fail> {
     let entry = entry(rt, alloc, text)?;
-    match prepare(alloc, rows, &entry) {
-        Ok(change) => {
-            commit(rows, change);
-            done_line(alloc, position)
-        }
-        Err(refusal) => refused_line(alloc, refusal),
-    }
+    Ok(is_done(alloc, map, &entry))
 }
 
 fn answers_of(
     rt: &impl Abort,
     alloc: Global,
-    rows: &mut Rows,
+    map: &mut PrivMap,
     statements: &str,
 ) -> Result<String, Fail> {
     let mut answers = String::new(alloc);
-    let mut position = 0u32;
     for statement in statements.lines() {
-        position = position.saturating_add(1);
-        let line = answer_line(rt, alloc, rows, statement, position)?;
-        answers.push_str(line.as_str())?;
+        let is_done = is_carried_out(rt, alloc, map, statement)?;
+        answers.push(if is_done { 'd' } else { 'r' })?;
     }
     Ok(answers)
 }
@@ -354,18 +282,18 @@ fn answers_of(
 fn are_answered(
     rt: &impl Abort,
     alloc: Global,
-    rows: &mut Rows,
+    map: &mut PrivMap,
     case: &History,
 ) -> Result<bool, Fail> {
-    let answers = answers_of(rt, alloc, rows, case.statements)?;
-    let left = rows_text(alloc, rows)?;
+    let answers = answers_of(rt, alloc, map, case.statements)?;
+    let left = rows_text(alloc, map.rows())?;
     Ok(answers.as_str() == case.answers && left.as_str() == case.rows)
 }
 
 // The same from the opening on.
 fn is_as_told(rt: &impl Abort, alloc: Global, case: &History) -> Result<bool, Fail> {
-    let mut rows = Rows::opening(alloc)?;
-    are_answered(rt, alloc, &mut rows, case)
+    let mut map = PrivMap::opening(alloc)?;
+    are_answered(rt, alloc, &mut map, case)
 }
 
 #[test]

@@ -8,6 +8,7 @@ use acl_items::Items;
 use acl_names::{AuthId, Caller, HostText, UserName};
 use acl_stmt::{Entry, Request, Statement};
 use grant_parse::{parse, parse_request};
+use priv_map::PrivMap;
 use std::alloc::Global;
 use std::process::Abort;
 use std::test::Fail;
@@ -64,4 +65,17 @@ pub(crate) fn entry(rt: &impl Abort, alloc: Global, text: &str) -> Result<Entry,
 
 pub(crate) fn request(alloc: Global, text: &str) -> Result<Request, Fail> {
     Ok(parse_request(alloc, text, 1000)?)
+}
+
+// Whether the statement is carried out.
+pub(crate) fn is_done(alloc: Global, map: &mut PrivMap, entry: &Entry) -> bool
+    requires { IsTrue (is_built entry.now.statement) }
+{
+    match map.prepare(alloc, entry) {
+        Ok(change) => {
+            map.commit(change);
+            true
+        }
+        Err(_) => false,
+    }
 }
