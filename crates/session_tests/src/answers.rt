@@ -1,129 +1,102 @@
-//! Answers, and how they are written.
+//! Answers of each kind, and how they are written.
+ghost use Rattle.std.specs.Prelude.{◌<◌, ◌^◌, length};
+
 use acl_items::Items;
 use acl_names::{AuthId, HostText, Ident, UserName};
 use acl_stmt::{Full, Missing, Refusal, Target, Why};
 use line_answers::{Answer, Denial, LineRefusal, LoginRefusal, report_of, report_text};
 use priv_sets::{Plain, Privilege};
-use std::alloc::Global;
+use std::alloc::{AllocError, Global};
 use std::test::Fail;
 
-// The refusals of statements, by the places of their values in `refusal`.
-#[rattlefmt::skip]
-static REFUSALS: [&str; 14] = [
-    "refused closed",
-    "refused no such account `r`@`%`",
-    "refused account exists `r`@`%`",
-    "refused mandatory role `r`@`%`",
-    "refused not granted `r`@`%` to `we``ird`@`%`",
-    "refused loop `r`@`%` to `we``ird`@`%`",
-    "refused no such grant for `r`@`%`",
-    "refused full accounts 4096",
-    "refused full schemas 4096",
-    "refused full pairs 262144",
-    "refused full objects 65536",
-    "refused full edges 65536",
-    "refused history full",
-    "refused disk fault",
-];
-
-fn role(alloc: Global) -> Result<AuthId, Fail> {
+fn account(alloc: Global, user: &str) -> Result<AuthId, AllocError>
+    requires { length user.now < 2 ^ 32 }
+{
     Ok(AuthId {
-        user: UserName::read(alloc, "r")?,
-        host: HostText::read(alloc, "%")?,
+        user: UserName::read(alloc, user).map_err(|_| AllocError)?,
+        host: HostText::read(alloc, "%").map_err(|_| AllocError)?,
     })
 }
 
-fn holder(alloc: Global) -> Result<AuthId, Fail> {
-    Ok(AuthId {
-        user: UserName::read(alloc, "we`ird")?,
-        host: HostText::read(alloc, "%")?,
-    })
+fn name(alloc: Global, text: &str) -> Result<Ident, AllocError>
+    requires { length text.now < 2 ^ 32 }
+{
+    Ident::read(alloc, text).map_err(|_| AllocError)
 }
 
-fn full(place: usize) -> Full {
-    match place {
-        7 => Full::Accounts,
-        8 => Full::Schemas,
-        9 => Full::Pairs,
-        10 => Full::Objects,
-        _ => Full::Edges,
-    }
+fn is_written(alloc: Global, answer: &Answer, wanted: &str) -> Result<bool, AllocError> {
+    let text = answer.to_string(alloc)?;
+    Ok(text.as_str() == wanted)
 }
 
-fn refusal(alloc: Global, place: usize) -> Result<Refusal, Fail> {
-    let role = role(alloc)?;
-    let account = holder(alloc)?;
-    Ok(match place {
-        0 => Refusal::Closed,
-        1 => Refusal::NoSuchAccount { account: role },
-        2 => Refusal::AccountExists { account: role },
-        3 => Refusal::Mandatory { role },
-        4 => Refusal::NotGranted { role, account },
-        5 => Refusal::Loop { role, account },
-        6 => Refusal::NoSuchGrant { account: role },
-        12 => Refusal::HistoryFull,
-        13 => Refusal::DiskFault,
-        _ => Refusal::Full { what: full(place) },
-    })
-}
-
-#[test]
-fn refusals_of_statements_are_written(rt: HostRuntime) -> Result<(), Fail> {
-    let alloc = rt.alloc();
-    for (place, wanted) in REFUSALS.iter().enumerate() {
-        let answer = Answer::Refused(LineRefusal::Statement(refusal(alloc, place)?));
-        assert_eq!(rt; answer.to_string(alloc)?.as_str(), *wanted);
-    }
-    Ok(())
-}
-
-// The other answers, by the places of their values in `answer`.
-#[rattlefmt::skip]
-static ANSWERS: [&str; 9] = [
-    "connected `we``ird`@`%`",
-    "schema `s```",
-    "bye",
-    "allowed",
-    "done 12",
-    "refused not connected",
-    "refused no account",
-    "refused no memory",
-    "refused denied INSERT (`b`) ON FUNCTION `s`.`f` restricted",
-];
-
-fn denial(alloc: Global) -> Result<Denial, Fail> {
-    Ok(Denial {
+fn denied(target: Target, column: Option<Ident>, why: Why) -> Denial {
+    Denial {
         missing: Missing {
             privilege: Privilege::Plain(Plain::new(1)),
             on_target: true,
             column: None,
-            why: Why::Restricted,
+            why,
         },
-        target: Target::Function(Ident::read(alloc, "s")?, Ident::read_lower(alloc, "F")?),
-        column: Some(Ident::read(alloc, "b")?),
-    })
+        target,
+        column,
+    }
 }
 
-fn answer(alloc: Global, place: usize) -> Result<Answer, Fail> {
-    Ok(match place {
-        0 => Answer::Connected(holder(alloc)?),
-        1 => Answer::Schema(Ident::read(alloc, "s`")?),
-        2 => Answer::Bye,
-        3 => Answer::Allowed,
-        4 => Answer::Done { position: 12 },
-        5 => Answer::Refused(LineRefusal::NotConnected),
-        6 => Answer::Refused(LineRefusal::Login(LoginRefusal::NoAccount)),
-        7 => Answer::Refused(LineRefusal::NoMemory),
-        _ => Answer::Refused(LineRefusal::Denied(denial(alloc)?)),
-    })
+fn refused(refusal: Refusal) -> Answer {
+    Answer::Refused(LineRefusal::Statement(refusal))
 }
 
 #[test]
 fn answers_are_written(rt: HostRuntime) -> Result<(), Fail> {
     let alloc = rt.alloc();
-    for (place, wanted) in ANSWERS.iter().enumerate() {
-        assert_eq!(rt; answer(alloc, place)?.to_string(alloc)?.as_str(), *wanted);
-    }
+    let answer = Answer::Connected(account(alloc, "we`ird")?);
+    assert!(rt; is_written(alloc, &answer, "connected `we``ird`@`%`")?);
+    let answer = Answer::Schema(name(alloc, "s`")?);
+    assert!(rt; is_written(alloc, &answer, "schema `s```")?);
+    assert!(rt; is_written(alloc, &Answer::Bye, "bye")?);
+    assert!(rt; is_written(alloc, &Answer::Allowed, "allowed")?);
+    assert!(rt; is_written(alloc, &Answer::Done { position: 12 }, "done 12")?);
+    let refused = Answer::Refused(LineRefusal::NotConnected);
+    assert!(rt; is_written(alloc, &refused, "refused not connected")?);
+    let refused = Answer::Refused(LineRefusal::Login(LoginRefusal::NoAccount));
+    assert!(rt; is_written(alloc, &refused, "refused no account")?);
+    let refused = Answer::Refused(LineRefusal::NoMemory);
+    assert!(rt; is_written(alloc, &refused, "refused no memory")?);
+    Ok(())
+}
+
+#[test]
+fn denials_name_their_object(rt: HostRuntime) -> Result<(), Fail> {
+    let alloc = rt.alloc();
+    let target = Target::Table(name(alloc, "world")?, name(alloc, "city")?);
+    let answer = Answer::Denied(denied(target, None, Why::Restricted));
+    let wanted = "denied INSERT ON `world`.`city` restricted";
+    assert!(rt; is_written(alloc, &answer, wanted)?);
+    let target = Target::Function(name(alloc, "s")?, name(alloc, "f")?);
+    let answer = Answer::Denied(denied(target, None, Why::NoGrant));
+    assert!(rt; is_written(alloc, &answer, "denied INSERT ON FUNCTION `s`.`f`")?);
+    let target = Target::Table(name(alloc, "s")?, name(alloc, "t")?);
+    let column = Some(name(alloc, "b")?);
+    let answer = Answer::Refused(LineRefusal::Denied(denied(target, column, Why::NoGrant)));
+    let wanted = "refused denied INSERT (`b`) ON `s`.`t`";
+    assert!(rt; is_written(alloc, &answer, wanted)?);
+    Ok(())
+}
+
+#[test]
+fn refusals_name_their_accounts(rt: HostRuntime) -> Result<(), Fail> {
+    let alloc = rt.alloc();
+    let role = account(alloc, "r")?;
+    let answer = refused(Refusal::Loop {
+        role,
+        account: account(alloc, "a")?,
+    });
+    assert!(rt; is_written(alloc, &answer, "refused loop `r`@`%` to `a`@`%`")?);
+    let account = account(alloc, "u1")?;
+    let answer = refused(Refusal::NoSuchGrant { account });
+    assert!(rt; is_written(alloc, &answer, "refused no such grant for `u1`@`%`")?);
+    let answer = refused(Refusal::Full { what: Full::Pairs });
+    assert!(rt; is_written(alloc, &answer, "refused full pairs 262144")?);
     Ok(())
 }
 
@@ -131,6 +104,7 @@ fn answers_are_written(rt: HostRuntime) -> Result<(), Fail> {
 fn the_length_of_the_history_is_told_last(rt: HostRuntime) -> Result<(), Fail> {
     let alloc = rt.alloc();
     let report = report_of(alloc, Items::new(alloc), Vec::new(alloc), 3)?;
-    assert_eq!(rt; report_text(alloc, &report)?.as_str(), "history 3\n");
+    let text = report_text(alloc, &report)?;
+    assert_eq!(rt; text.as_str(), "history 3\n");
     Ok(())
 }
