@@ -18,7 +18,7 @@ use Rattle.priv_map.specs.declared.acting.Acting.{Acting}
 use Rattle.priv_sets.specs.StaticSet.{bits_of}
 use Rattle.priv_sets.specs.declared.static_set.Static.{Static}
 
--- the static privileges that a grant on `*.*` names: ALL is each one but GRANT OPTION, which has the number 30
+-- the static privileges that a grant on `*.*` names: ALL is each one but GRANT OPTION
 abbrev pub granted_bits : PrivList → ℕ
 granted_bits privileges = if privileges.all then 1073741823 else bits_of privileges.plain
 

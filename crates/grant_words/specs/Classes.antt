@@ -3,6 +3,7 @@ use Rattle.std.specs.Prelude.{ℕ, Bool, true, false, ◌&&◌, ◌==◌, not, i
 pub use Rattle.std.specs.Prelude.{is_none as no_fault}
 use Rattle.std.specs.List.{list_any}
 use Rattle.std.specs.Str.{str_eq_ignore_ascii_case, str_to_ascii_lowercase}
+use Rattle.acl_names.specs.Limits.{ident_limit}
 use Rattle.acl_names.specs.Name.{ident_fault}
 use Rattle.grant_lex.specs.declared.sorts.Kind.{Kind}
 use Rattle.grant_lex.specs.declared.sorts.Kind.TheVariants.{Word, Quoted, Backquoted, Mark}
@@ -25,7 +26,7 @@ pub data Class : Type 0 where
   keyword : List (List ℕ) → Class
   -- a mark
   mark : ℕ → Class
-  -- an identifier: a word that is not reserved or a name in backquotes, of at most 64 characters
+  -- an identifier: a word that is not reserved or a name in backquotes, within the limit of names
   identifier : Class
   -- a word that is not reserved or a name in backquotes, which is no identifier, but passes a test; the text is one that does
   longer : (List ℕ → Bool) → List ℕ → Class
@@ -37,7 +38,7 @@ abbrev pub word : List ℕ → Class
 word text = keyword (text ∷ [])
 
 abbrev pub is_identifier : List ℕ → Bool
-is_identifier text = is_none (ident_fault 64 text)
+is_identifier text = is_none (ident_fault ident_limit text)
 
 abbrev pub is_one_of : List (List ℕ) → List ℕ → Bool
 is_one_of words text = list_any (λ word. str_eq_ignore_ascii_case word text) words

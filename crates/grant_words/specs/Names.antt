@@ -3,6 +3,7 @@ use Rattle.std.specs.Prelude.{ℕ, Bool, true, false, ◌&&◌, is_none, List, [
 pub use Rattle.std.specs.Prelude.{is_some}
 use Rattle.std.specs.Str.{str_to_ascii_lowercase}
 use Rattle.account_match.specs.Form.{form_of}
+use Rattle.acl_names.specs.Limits.{host_limit, user_limit}
 use Rattle.acl_names.specs.Name.{name_fault}
 use Rattle.acl_names.specs.declared.auth.AuthId.{AuthId}
 use Rattle.grant_words.specs.Classes.{Class}
@@ -15,7 +16,7 @@ abbrev pub same : List ℕ → List ℕ
 same text = text
 
 abbrev pub is_user : List ℕ → Bool
-is_user text = is_none (name_fault 32 text)
+is_user text = is_none (name_fault user_limit text)
 
 abbrev pub is_some_text : List ℕ → Bool
 is_some_text [] = false
@@ -25,9 +26,9 @@ is_some_text (byte ∷ rest) = true
 abbrev pub is_role_user : List ℕ → Bool
 is_role_user text = is_some_text text && is_user text
 
--- a host of at most 255 characters, with an address and a mask where it has a `/`
+-- a host within its limit, with an address and a mask where it has a `/`
 abbrev pub is_host : List ℕ → Bool
-is_host text = is_none (name_fault 255 text) && is_some (form_of (str_to_ascii_lowercase text))
+is_host text = is_none (name_fault host_limit text) && is_some (form_of (str_to_ascii_lowercase text))
 
 abbrev pub user_class : Class
 user_class = valued name is_user (codes "u")

@@ -3,6 +3,7 @@ use Rattle.std.specs.Prelude.{◌≡◌, ◌≢◌, ◌⊎◌, ◌≤◌, ℕ, t
 use Rattle.std.specs.List.{AllByRecursion}
 use Rattle.std.specs.Str.{str_to_ascii_lowercase}
 use Rattle.account_match.specs.Form.{form_of}
+use Rattle.acl_names.specs.Limits.{host_limit, user_limit}
 use Rattle.acl_names.specs.Name.{name_fault}
 use Rattle.acl_names.specs.Quoted.{quoted}
 use Rattle.acl_names.specs.declared.auth.AuthId.{AuthId}
@@ -55,8 +56,8 @@ pub record SpellsRole (text : List ℕ) (role : AuthId) : Type 0 where
   pub spelled : SpellsAccount text role.user host
   pub lowered : role.host ≡ str_to_ascii_lowercase host
   pub some : role.user ≢ []
-  pub user_rules : name_fault 32 role.user ≡ None
-  pub host_rules : name_fault 255 host ≡ None
+  pub user_rules : name_fault user_limit role.user ≡ None
+  pub host_rules : name_fault host_limit host ≡ None
   pub comparable : IsSome (form_of role.host)
 
 -- a role with blanks round it, or none

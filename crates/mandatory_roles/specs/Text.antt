@@ -2,14 +2,15 @@
 use Rattle.std.specs.Prelude.{◌≡◌, ◌≢◌, ℕ, List, [], ◌∷◌, ◌++◌, IsSome, None, codes, refl}
 use Rattle.account_match.specs.Form.{form_of}
 use Rattle.acl_names.specs.AuthId.{auth_text}
+use Rattle.acl_names.specs.Limits.{host_limit, user_limit}
 use Rattle.acl_names.specs.Name.{IsLowerName, name_fault}
 use Rattle.acl_names.specs.declared.auth.AuthId.{AuthId}
 
 -- an account that may be a role: its user is not empty, both names keep their rules, and its host can be compared
 pub record IsRole (role : AuthId) : Type 0 where
   pub some : role.user ≢ []
-  pub user : name_fault 32 role.user ≡ None
-  pub host : IsLowerName 255 role.host
+  pub user : name_fault user_limit role.user ≡ None
+  pub host : IsLowerName host_limit role.host
   pub comparable : IsSome (form_of role.host)
 
 -- the accounts in backquotes, with commas between them

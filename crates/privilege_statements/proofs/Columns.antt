@@ -16,6 +16,7 @@ use Rattle.priv_items.specs.declared.item.Item.{Item}
 use Rattle.priv_items.specs.declared.item.Item.TheVariants.{Plain, Columns, Dynamic, Usage}
 use Rattle.priv_items.specs.declared.item.Named.{Named}
 use Rattle.priv_items.specs.declared.item.Named.TheVariants.{All}
+use Rattle.priv_sets.specs.Levels.{grant_option}
 use Rattle.privilege_statements.specs.Columns.{HasColumns, has_columns, privileges_of}
 use Rattle.privilege_statements.specs.PrivilegeItems.{column_names, item, maybe_columns, maybe_privileges, privilege_item, privileges, static_item, static_privilege}
 use Rattle.privilege_statements.specs.Statements.{grant, privilege_statement, privileges_on_target, request, revoke}
@@ -96,7 +97,7 @@ fine_static number us columns (inr (none, same)) = bare (length us) (static_item
 fine_item : (us : List Lexeme) (one : Item) → spells (grammar_of item) us one → Fine (length us) one
 unfolding item privilege_item static_privilege
 fine_item us one (inl (t, ws, fits, whole, (none, same))) = bare (length us) one Usage same refl refl
-fine_item us one (inr (inl (t, ws, fits, whole, (t', xs, fits', whole', (none, same))))) = bare (length us) one (Plain 30) same refl refl
+fine_item us one (inr (inl (t, ws, fits, whole, (t', xs, fits', whole', (none, same))))) = bare (length us) one (Plain grant_option) same refl refl
 fine_item us one (inr (inr (inl (number, spelled, same)))) = bare (length us) one (Dynamic number) same refl refl
 fine_item us one (inr (inr (inr (v, (xs, ys, whole, name, columns), same)))) =
     let fine : Fine (length ys) (static_item v.0 v.1) = fine_static v.0 ys v.1 columns in

@@ -10,6 +10,7 @@ use Rattle.priv_items.specs.declared.item.Item.{Item}
 use Rattle.priv_items.specs.declared.item.Item.TheVariants.{Plain, Columns, Dynamic, Usage}
 use Rattle.priv_items.specs.declared.item.Named.{Named}
 use Rattle.priv_items.specs.declared.item.Named.TheVariants.{All, Listed}
+use Rattle.priv_sets.specs.Levels.{grant_option}
 use Rattle.privilege_statements.specs.PrivilegeNames.{dynamic_class, dynamic_number, static_name}
 
 -- `(`
@@ -44,7 +45,7 @@ privilege_item = choice (to Dynamic (token dynamic_class dynamic_number)) static
 unfoldable pub item : Syntax Item
 item =
     choice (after (word (codes "USAGE")) (empty Usage))
-    (choice (after (word (codes "GRANT")) (after (word (codes "OPTION")) (empty (Plain 30)))) privilege_item)
+    (choice (after (word (codes "GRANT")) (after (word (codes "OPTION")) (empty (Plain grant_option)))) privilege_item)
 
 -- [ PRIVILEGES ]
 unfoldable pub maybe_privileges : Syntax Named

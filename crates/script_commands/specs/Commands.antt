@@ -3,6 +3,7 @@ use Rattle.std.specs.Prelude.{ℕ, Bool, is_none, List, [], Some, None, codes}
 use Rattle.std.specs.Str.{str_to_ascii_lowercase}
 use Rattle.account_match.specs.declared.client.Client.{Client}
 use Rattle.account_match.specs.declared.client.Client.TheVariants.{Local, Tcp}
+use Rattle.acl_names.specs.Limits.{host_limit}
 use Rattle.acl_names.specs.Name.{name_fault}
 use Rattle.acl_names.specs.declared.auth.AuthId.{AuthId}
 use Rattle.acl_names.specs.declared.policy.Verifier.{Verifier}
@@ -24,9 +25,9 @@ use Rattle.script_commands.specs.declared.command.RawCommand.{RawCommand}
 use Rattle.script_commands.specs.declared.command.RawCommand.TheVariants as raw
 use Rattle.script_commands.specs.declared.command.RawCommand.TheVariants.{Disconnect, UseSchema, SetRole, Check, ShowGrants, Await}
 
--- at most 255 characters
+-- a host within its limit
 abbrev pub is_host_text : List ℕ → Bool
-is_host_text text = is_none (name_fault 255 text)
+is_host_text text = is_none (name_fault host_limit text)
 
 -- the address or the name of a client
 abbrev pub client_class : Class
