@@ -1,0 +1,75 @@
+-- What is seen of held bits: what each holder holds on each thing, and the spare room.
+use Rattle.std.specs.Prelude.{◌≡◌, refl, ℕ, Bool, false, ◌<◌, ◌+◌, ◌^◌, ◌==◌, ◌&&◌, List, [], ◌∷◌, All, count_by, if◌then◌else◌}
+use Rattle.std.specs.List.{list_any, AllPairs}
+use Rattle.std.specs.List.Sorted.{IsNonDecreasingBy}
+use Rattle.std.specs.Coded.{Coded, code_by, coded×, coded_ℕ, coded_list}
+use Rattle.held_bits.specs.declared.bits.Bits.{Bits}
+use Rattle.held_bits.specs.Bits.{no_bits, are_none}
+
+-- what a holder holds on a thing
+pub record Entry (K : Type 0) : Type 0 where
+  pub holder : ℕ
+  pub thing : K
+  pub bits : Bits
+
+-- all that is held, and how many more entries and how many more things fit without memory
+pub record Held (K : Type 0) : Type 0 where
+  pub entries : List (Entry K)
+  pub record_room : ℕ
+  pub thing_room : ℕ
+
+-- bits are stored as a pair of numbers
+abbrev pub bits_code : Coded Bits
+bits_code =
+    code_by (ℕ × ℕ) (coded× coded_ℕ coded_ℕ) (λ b. (b.granted, b.restricted)) (λ p. record { granted = p.0; restricted = p.1 }) (λ _. refl)
+
+-- an entry as its parts
+abbrev pub entry_code : {K : Type 0} → Coded K → Coded (Entry K)
+entry_code {K} code =
+    code_by (ℕ × (K × Bits)) (coded× coded_ℕ (coded× code bits_code)) (λ e. (e.holder, (e.thing, e.bits)))
+    (λ p. record { holder = p.0; thing = p.1.0; bits = p.1.1 }) (λ _. refl)
+
+-- and what is held as its entries and both rooms
+abbrev pub held_code : {K : Type 0} → Coded K → Coded (Held K)
+held_code {K} code =
+    code_by (List (Entry K) × (ℕ × ℕ)) (coded× (coded_list (entry_code code)) (coded× coded_ℕ coded_ℕ))
+    (λ h. (h.entries, (h.record_room, h.thing_room)))
+    (λ p. record { entries = p.0; record_room = p.1.0; thing_room = p.1.1 }) (λ _. refl)
+
+-- whether an entry is that of a holder and a thing
+abbrev pub is_entry : {K : Type 0} → (K → K → Bool) → ℕ → K → Entry K → Bool
+is_entry eq holder thing entry = (holder == entry.holder) && eq thing entry.thing
+
+-- what a holder holds on a thing, which is nothing where no entry says it
+abbrev pub bits_at : {K : Type 0} → (K → K → Bool) → List (Entry K) → ℕ → K → Bits
+bits_at eq [] holder thing = no_bits
+bits_at eq (entry ∷ entries) holder thing = if is_entry eq holder thing entry then entry.bits else bits_at eq entries holder thing
+
+-- what one holder holds on one thing is this, and all else stays
+abbrev pub SetsBits : {K : Type 0} → (K → K → Bool) → List (Entry K) → List (Entry K) → ℕ → K → Bits → Type 0
+SetsBits {K} eq old new holder thing bits =
+    (h : ℕ) (k : K) → bits_at eq new h k ≡ (if (h == holder) && eq k thing then bits else bits_at eq old h k)
+
+-- whether an entry is one on a thing
+abbrev pub is_on : {K : Type 0} → (K → K → Bool) → K → Entry K → Bool
+is_on eq thing entry = eq thing entry.thing
+
+-- how many entries are on a thing
+abbrev pub uses_in : {K : Type 0} → (K → K → Bool) → List (Entry K) → K → ℕ
+uses_in eq entries thing = count_by (is_on eq thing) entries
+
+-- how many things have entries: each counts at its last entry
+abbrev pub thing_count : {K : Type 0} → (K → K → Bool) → List (Entry K) → ℕ
+thing_count eq [] = 0
+thing_count eq (entry ∷ entries) = (if list_any (is_on eq entry.thing) entries then 0 else 1) + thing_count eq entries
+
+-- an entry whose numbers fit in 32 bits
+abbrev pub IsNumbered : {K : Type 0} → Entry K → Type 0
+IsNumbered entry = (entry.holder < 2 ^ 32) × ((entry.bits.granted < 2 ^ 32) × (entry.bits.restricted < 2 ^ 32))
+
+-- each pair has one entry at most, none is empty, and the entries of a holder stand side by side, in the order of holders
+pub record IsSound {K : Type 0} (eq : K → K → Bool) (entries : List (Entry K)) : Type 0 where
+  pub once : AllPairs (λ one other. is_entry eq one.holder one.thing other ≡ false) entries
+  pub some : All (λ entry. are_none entry.bits ≡ false) entries
+  pub ordered : IsNonDecreasingBy (λ entry. entry.holder) entries
+  pub within : All IsNumbered entries

@@ -1,0 +1,1 @@
+//! Records in order by holder and number.
