@@ -4,7 +4,7 @@ use Rattle.std.specs.List.{list_any, AllPairs}
 use Rattle.std.specs.List.Sorted.{IsNonDecreasingBy}
 use Rattle.std.specs.Coded.{Coded, code_by, coded×, coded_ℕ, coded_list}
 use Rattle.held_bits.specs.declared.bits.Bits.{Bits}
-use Rattle.held_bits.specs.Bits.{no_bits, are_none}
+use Rattle.held_bits.specs.Bits.{no_bits, are_none, AreWithin}
 
 -- what a holder holds on a thing
 pub record Entry (K : Type 0) : Type 0 where
@@ -65,7 +65,7 @@ thing_count eq (entry ∷ entries) = (if list_any (is_on eq entry.thing) entries
 
 -- an entry whose numbers fit in 32 bits
 abbrev pub IsNumbered : {K : Type 0} → Entry K → Type 0
-IsNumbered entry = (entry.holder < 2 ^ 32) × ((entry.bits.granted < 2 ^ 32) × (entry.bits.restricted < 2 ^ 32))
+IsNumbered entry = (entry.holder < 2 ^ 32) × AreWithin entry.bits
 
 -- each pair has one entry at most, none is empty, and the entries of a holder stand side by side, in the order of holders
 pub record IsSound {K : Type 0} (eq : K → K → Bool) (entries : List (Entry K)) : Type 0 where

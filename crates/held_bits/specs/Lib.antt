@@ -1,3 +1,4 @@
 pub mod Bits
 pub mod HeldBits
 pub mod Records
+pub mod Written

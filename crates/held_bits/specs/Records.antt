@@ -4,7 +4,7 @@ use Rattle.std.specs.List.{AllPairs}
 use Rattle.numbered_names.specs.Numbered.{name_at}
 use Rattle.held_bits.specs.declared.bits.Bits.{Bits}
 use Rattle.held_bits.specs.declared.record.Record.{Record}
-use Rattle.held_bits.specs.Bits.{no_bits, are_none}
+use Rattle.held_bits.specs.Bits.{no_bits, are_none, AreWithin}
 use Rattle.held_bits.specs.HeldBits.{Entry}
 
 -- the place of a record in the order by its holder, then by its number
@@ -35,7 +35,7 @@ number_uses records thing = count_by (has_number thing) records
 
 -- a record whose numbers fit in 32 bits
 abbrev pub IsWithin : Record → Type 0
-IsWithin r = ((r.holder < 2 ^ 32) × (r.thing < 2 ^ 32)) × ((r.bits.granted < 2 ^ 32) × (r.bits.restricted < 2 ^ 32))
+IsWithin r = ((r.holder < 2 ^ 32) × (r.thing < 2 ^ 32)) × AreWithin r.bits
 
 -- records in order, each pair once, none of them empty
 pub record IsTable (records : List Record) : Type 0 where

@@ -1,5 +1,5 @@
 ghost use Rattle.std.specs.Prelude.{◌≡◌};
-ghost use Rattle.held_bits.specs.Bits.{are_none, no_bits};
+ghost use Rattle.held_bits.specs.Bits.{are_none, no_bits, AreWithin};
 
 /// What one holder holds on one thing: a bit for each privilege.
 #[derive(Clone, Copy, Debug)]
@@ -23,7 +23,8 @@ impl Bits {
 
     /// Whether nothing is granted and nothing restricted.
     pub fn are_none(self) -> bool
-        ensures { result ≡ are_none self }
+        ensures is { result ≡ are_none self }
+        ensures within { AreWithin self }
     {
         self.granted == 0 && self.restricted == 0
     }
