@@ -1,8 +1,11 @@
-ghost use Rattle.std.specs.Prelude.{◌≡◌, ◌+◌, ◌<◌, ◌≤◌, ◌↔◌, ℕ, [], length, IfOk, IsTrue, OnOk};
-ghost use Rattle.held_bits.specs.HeldBits.{bits_at, thing_count, uses_in, IsSound, SetsBits};
+ghost use Rattle.std.specs.Prelude.{◌≡◌, ◌+◌, ◌<◌, ◌≤◌, ◌↔◌, ℕ, false, [], length, IfOk, IsTrue, OnOk};
+ghost use Rattle.held_bits.specs.Bits.{are_none, no_bits, record_count};
+ghost use Rattle.held_bits.specs.HeldBits.{bits_at, thing_count, uses_in, SetsBits};
 
 use crate::Bits;
+use crate::numbers::{number_for, release};
 use crate::record::Record;
+use crate::table::{bits_of, write};
 use acl_items::Copied;
 use numbered_names::NumberedNames;
 use std::alloc::{AllocError, Global};
@@ -49,6 +52,131 @@ impl<K: Eq + Hash + Drop> HeldBits<K> {
             things: NumberedNames::new(alloc),
             records: Vec::new(alloc),
             uses: Vec::new(alloc),
+        }
+    }
+
+    /// How many pairs of a holder and a thing hold something.
+    pub fn len(&self) -> usize
+        ensures { result ≡ length self.now.entries }
+    {
+        self.records.len()
+    }
+
+    /// Whether nothing is held.
+    pub fn is_empty(&self) -> bool
+        ensures { IsTrue result ↔ (length self.now.entries ≡ 0) }
+    {
+        self.len() == 0
+    }
+
+    /// How many things something is held on.
+    pub fn things(&self) -> usize
+        ensures { result ≡ thing_count K.eq self.now.entries }
+    {
+        self.things.has_each_name_once();
+        self.things.len()
+    }
+
+    /// How many holders hold something on the thing.
+    pub fn uses_of(&self, thing: &K) -> u32
+        ensures { result ≡ uses_in K.eq self.now.entries thing.now }
+    {
+        self.things.has_each_name_once();
+        match self.things.number_of(thing) {
+            Some(number) => self.uses[number as usize],
+            None => 0,
+        }
+    }
+
+    /// What the holder holds on the thing.
+    pub fn bits(&self, holder: u32, thing: &K) -> Bits
+        ensures is { result ≡ bits_at K.eq self.now.entries holder thing.now }
+    {
+        self.things.has_each_name_once();
+        match self.things.number_of(thing) {
+            Some(number) => bits_of(&self.records, holder, number),
+            None => Bits::none(),
+        }
+    }
+
+    /// Makes room for so many pairs and so many things more. What is held stays, after an error too.
+    ///
+    /// An error comes for want of memory, and where more than 2^32 - 1 pairs or 2^32 things would stand.
+    pub fn reserve(&mut self, pairs: u32, things: u32) -> Result<(), AllocError>
+        ensures record_room { OnOk result (pairs ≤ self.new.record_room) }
+        ensures thing_room { OnOk result (things ≤ self.new.thing_room) }
+        ensures entries { self.new.entries ≡ self.old.entries }
+        ensures kept_record_room { self.old.record_room ≤ self.new.record_room }
+        ensures kept_thing_room { self.old.thing_room ≤ self.new.thing_room }
+    {
+        let pairs = pairs as usize;
+        if pairs > u32::MAX as usize - self.records.len() {
+            return Err(AllocError);
+        }
+        self.records.reserve(pairs)?;
+        self.uses.reserve(things as usize)?;
+        self.things.reserve(things)
+    }
+
+    /// Sets what the holder holds on the thing, in memory that was reserved.
+    pub fn set(&mut self, holder: u32, thing: K, bits: Bits)
+        requires record_room { 0 < self.old.record_room }
+        requires thing_room { 0 < self.old.thing_room }
+        ensures bits { SetsBits K.eq self.old.entries self.new.entries holder thing bits }
+        ensures count { length self.new.entries + record_count (bits_at K.eq self.old.entries holder thing) ≡
+            length self.old.entries + record_count bits }
+        ensures record_room { self.new.record_room + length self.new.entries ≡
+            self.old.record_room + length self.old.entries }
+        ensures thing_room { self.old.thing_room ≤ self.new.thing_room + 1 }
+    {
+        if bits.are_none() {
+            self.clear(holder, &thing);
+        } else {
+            let number = number_for(&mut self.things, &mut self.uses, thing);
+            self.things.has_each_name_once();
+            write(&mut self.records, &mut self.uses, holder, number, bits);
+        }
+    }
+
+    /// Sets what the holder holds on the thing, where it holds something. It takes no room.
+    pub fn replace(&mut self, holder: u32, thing: &K, bits: Bits)
+        requires { are_none (bits_at K.eq self.old.entries holder thing.now) ≡ false }
+        ensures bits { SetsBits K.eq self.old.entries self.new.entries holder thing.now bits }
+        ensures count { length self.new.entries + record_count (bits_at K.eq self.old.entries holder thing.now) ≡
+            length self.old.entries + record_count bits }
+        ensures record_room { self.new.record_room + length self.new.entries ≡
+            self.old.record_room + length self.old.entries }
+        ensures thing_room { self.old.thing_room ≤ self.new.thing_room }
+    {
+        self.change(holder, thing, bits);
+    }
+
+    /// Takes away all that the holder holds on the thing. It takes no room.
+    pub fn clear(&mut self, holder: u32, thing: &K)
+        ensures bits { SetsBits K.eq self.old.entries self.new.entries holder thing.now no_bits }
+        ensures count { length self.new.entries + record_count (bits_at K.eq self.old.entries holder thing.now) ≡
+            length self.old.entries }
+        ensures record_room { self.new.record_room + length self.new.entries ≡
+            self.old.record_room + length self.old.entries }
+        ensures thing_room { self.old.thing_room ≤ self.new.thing_room }
+    {
+        self.change(holder, thing, Bits::none());
+    }
+
+    // Sets what the holder holds on the thing, where that takes no room.
+    fn change(&mut self, holder: u32, thing: &K, bits: Bits)
+        requires { are_none bits ≡ false → are_none (bits_at K.eq self.old.entries holder thing.now) ≡ false }
+        ensures bits { SetsBits K.eq self.old.entries self.new.entries holder thing.now bits }
+        ensures count { length self.new.entries + record_count (bits_at K.eq self.old.entries holder thing.now) ≡
+            length self.old.entries + record_count bits }
+        ensures record_room { self.new.record_room + length self.new.entries ≡
+            self.old.record_room + length self.old.entries }
+        ensures thing_room { self.old.thing_room ≤ self.new.thing_room }
+    {
+        self.things.has_each_name_once();
+        if let Some(number) = self.things.number_of(thing) {
+            write(&mut self.records, &mut self.uses, holder, number, bits);
+            release(&mut self.things, &self.uses, number);
         }
     }
 }

@@ -3,6 +3,7 @@
 
 mod bits;
 mod held_bits;
+mod numbers;
 mod record;
 mod table;
 

@@ -1,0 +1,40 @@
+use Rattle.std.proofs.Common.{ap, sym, arith}
+use Rattle.std.specs.Vec.{vec_capacity}
+use Rattle.held_bits.proofs.Changes.{put_held, sets_put, count_put, room_put}
+use Rattle.held_bits.proofs.held_bits.HeldBits.set.Goals as goal
+
+pub invariant_of-self : goal.invariant_of-self
+invariant_of-self g c =
+    let s = c.self.inside in
+    let p = c.number_for-number in
+    put_held g.K.PartialEq.eq g.met.K.Eq.laws s.things.names p.new.things.names s.records.items c.write.new.records.items s.uses.items p.new.uses.items c.write.new.uses.items
+    c.self.invariant c.has_each_name_once.ensures c.args.holder p.result c.args.thing c.args.bits p.ensures.is (sym c.if-are_none.ensures.is)
+    (omega (arith, c.requires.record_room, ap (λ v. v.record_room) c.self.view_is)) p.ensures.numbers p.ensures.uses p.ensures.stood p.ensures.others c.write.ensures.written
+
+pub returns-else-are_none-clause-bits : goal.returns-else-are_none-clause-bits
+returns-else-are_none-clause-bits g c =
+    let s = c.self.inside in
+    let p = c.number_for-number in
+    rw (← c.self.view_is)
+    (sets_put g.K.PartialEq.eq g.met.K.Eq.laws s.things.names p.new.things.names s.records.items c.write.new.records.items s.uses.items p.new.uses.items c.write.new.uses.items
+    c.self.invariant c.has_each_name_once.ensures c.args.holder p.result c.args.thing c.args.bits p.ensures.is (sym c.if-are_none.ensures.is)
+    (omega (arith, c.requires.record_room, ap (λ v. v.record_room) c.self.view_is)) p.ensures.numbers p.ensures.uses p.ensures.stood p.ensures.others c.write.ensures.written)
+
+pub returns-else-are_none-clause-count : goal.returns-else-are_none-clause-count
+returns-else-are_none-clause-count g c =
+    let s = c.self.inside in
+    let p = c.number_for-number in
+    rw (← c.self.view_is)
+    (count_put g.K.PartialEq.eq g.met.K.Eq.laws s.things.names p.new.things.names s.records.items c.write.new.records.items s.uses.items p.new.uses.items c.write.new.uses.items
+    c.self.invariant c.has_each_name_once.ensures c.args.holder p.result c.args.thing c.args.bits p.ensures.is (sym c.if-are_none.ensures.is)
+    (omega (arith, c.requires.record_room, ap (λ v. v.record_room) c.self.view_is)) p.ensures.numbers p.ensures.uses p.ensures.stood p.ensures.others c.write.ensures.written)
+
+pub returns-else-are_none-clause-record_room : goal.returns-else-are_none-clause-record_room
+returns-else-are_none-clause-record_room g c =
+    let s = c.self.inside in
+    let p = c.number_for-number in
+    rw (← c.self.view_is, c.write.ensures.capacity)
+    (room_put g.K.PartialEq.eq g.met.K.Eq.laws s.things.names p.new.things.names s.records.items c.write.new.records.items s.uses.items p.new.uses.items c.write.new.uses.items
+    c.self.invariant c.has_each_name_once.ensures c.args.holder p.result c.args.thing c.args.bits p.ensures.is (sym c.if-are_none.ensures.is)
+    (omega (arith, c.requires.record_room, ap (λ v. v.record_room) c.self.view_is)) p.ensures.numbers p.ensures.uses p.ensures.stood p.ensures.others c.write.ensures.written
+    (vec_capacity s.records) (omega arith) (omega arith))
