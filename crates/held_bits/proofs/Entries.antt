@@ -18,7 +18,7 @@ one_if b = cond b 1 0
 pub uses_cons : (n : ℕ) (r : Record) (rs : List Record) → number_uses (r ∷ rs) n ≡ one_if (n == r.thing) + number_uses rs n
 uses_cons n r rs = sum_by-cons (λ x. one_if (has_number n x)) r rs
 
-uses_head : (r : Record) (rs : List Record) → 0 < number_uses (r ∷ rs) r.thing
+pub uses_head : (r : Record) (rs : List Record) → 0 < number_uses (r ∷ rs) r.thing
 uses_head r rs = omega (arith, uses_cons r.thing r rs, ap one_if (eq-eqb r.thing r.thing refl))
 
 uses_tail : (n : ℕ) (r : Record) (rs : List Record) → 0 < number_uses rs n → 0 < number_uses (r ∷ rs) n
@@ -42,7 +42,7 @@ module _ {K : Type 0} where
   pub record IsNamed (names : List (Option K)) (rs : List Record) : Type 0 where
     pub named : (n : ℕ) → 0 < number_uses rs n → is_some (name_at names n) ≡ true
 
-  named_tail : (names : List (Option K)) (r : Record) (rs : List Record) → IsNamed names (r ∷ rs) → IsNamed names rs
+  pub named_tail : (names : List (Option K)) (r : Record) (rs : List Record) → IsNamed names (r ∷ rs) → IsNamed names rs
   named_tail names r rs all = record { named = λ n more. all.named n (uses_tail n r rs more) }
 
   -- the names of numbers with records alone matter

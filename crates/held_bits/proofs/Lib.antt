@@ -2,3 +2,4 @@ pub mod Tables
 pub mod Writes
 pub mod Entries
 pub mod Changes
+pub mod Things

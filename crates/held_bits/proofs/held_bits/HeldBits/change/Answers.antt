@@ -32,7 +32,7 @@ write-requires-clause-limit g c = λ none some.
 pub release-requires : goal.release-requires
 release-requires g c =
     let s = c.self.inside in
-    omega (arith, c.deref.ensures.value, c.write.ensures.written.numbers, ap length c.deref.ensures.value,
+    omega (arith, c.write.ensures.written.numbers, ap length c.deref.ensures.value,
     number_within g.K.PartialEq.eq s.things.names s.records.items s.uses.items c.self.invariant
     c.in-Some.number c.args.thing.now ((c.in-Some.ensures.number c.in-Some.number).0 refl))
 
