@@ -3,3 +3,4 @@ pub mod Writes
 pub mod Entries
 pub mod Changes
 pub mod Things
+pub mod Sound

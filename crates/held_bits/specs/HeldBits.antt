@@ -1,6 +1,6 @@
 -- What is seen of held bits: what each holder holds on each thing, and the spare room.
-use Rattle.std.specs.Prelude.{◌≡◌, refl, ℕ, Bool, false, ◌<◌, ◌+◌, ◌^◌, ◌==◌, ◌&&◌, List, [], ◌∷◌, All, count_by, if◌then◌else◌}
-use Rattle.std.specs.List.{list_any, AllPairs}
+use Rattle.std.specs.Prelude.{◌≡◌, refl, ℕ, Bool, true, false, ◌<◌, ◌≤◌, ◌+◌, ◌^◌, ◌==◌, ◌&&◌, List, [], ◌∷◌, All, count_by, length, if◌then◌else◌}
+use Rattle.std.specs.List.{list_any, AllPairs, AllWithin, Contains, IsDistinct}
 use Rattle.std.specs.List.Sorted.{IsNonDecreasingBy}
 use Rattle.std.specs.Coded.{Coded, code_by, coded×, coded_ℕ, coded_list}
 use Rattle.held_bits.specs.declared.bits.Bits.{Bits}
@@ -73,3 +73,15 @@ pub record IsSound {K : Type 0} (eq : K → K → Bool) (entries : List (Entry K
   pub some : All (λ entry. are_none entry.bits ≡ false) entries
   pub ordered : IsNonDecreasingBy (λ entry. entry.holder) entries
   pub within : All IsNumbered entries
+
+-- the entries of the holders before one stand before a place, and those of the holder and of later ones from it on
+pub record IsFirstOf {K : Type 0} (entries : List (Entry K)) (holder place : ℕ) : Type 0 where
+  pub inside : place ≤ length entries
+  pub before : AllWithin (λ entry. entry.holder < holder) entries 0 place
+  pub after : AllWithin (λ entry. holder ≤ entry.holder) entries place (length entries)
+
+-- the things that have entries, each once
+pub record AreThings {K : Type 0} (eq : K → K → Bool) (entries : List (Entry K)) (things : List K) : Type 0 where
+  pub once : IsDistinct eq things
+  pub used : All (λ thing. list_any (is_on eq thing) entries ≡ true) things
+  pub all : All (λ entry. Contains things entry.thing) entries

@@ -1,11 +1,11 @@
-ghost use Rattle.std.specs.Prelude.{◌≡◌, ◌+◌, ◌<◌, ◌≤◌, ◌↔◌, ℕ, false, [], length, IfOk, IsTrue, OnOk};
+ghost use Rattle.std.specs.Prelude.{◌≡◌, ◌+◌, ◌<◌, ◌≤◌, ◌↔◌, ℕ, false, [], None, Some, length, slice_get, IfNone, IfOk, IfSome, IsTrue, OnOk};
 ghost use Rattle.held_bits.specs.Bits.{are_none, no_bits, record_count};
-ghost use Rattle.held_bits.specs.HeldBits.{bits_at, thing_count, uses_in, SetsBits};
+ghost use Rattle.held_bits.specs.HeldBits.{bits_at, thing_count, uses_in, AreThings, IsFirstOf, IsSound, SetsBits};
 
 use crate::Bits;
 use crate::numbers::{number_for, release};
-use crate::record::Record;
-use crate::table::{bits_of, write};
+use crate::record::{Record, rank};
+use crate::table::{bits_of, rank_start, write};
 use acl_items::Copied;
 use numbered_names::NumberedNames;
 use std::alloc::{AllocError, Global};
@@ -99,6 +99,34 @@ impl<K: Eq + Hash + Drop> HeldBits<K> {
         }
     }
 
+    /// The things that something is held on, in no order that is promised.
+    pub fn things_held(&self) -> &[K]
+        ensures { AreThings K.eq self.now.entries result.now }
+    {
+        self.things.has_each_name_once();
+        self.things.as_slice()
+    }
+
+    /// The place of the holder's first entry, or, where it has none, of the first one of a later holder.
+    ///
+    /// The holder's entries stand from there on, one after the other.
+    pub fn first_of(&self, holder: u32) -> usize
+        ensures { IsFirstOf self.now.entries holder result }
+    {
+        rank_start(&self.records, rank(holder, 0))
+    }
+
+    /// The holder, the thing and the bits of the entry at a place, None past the last.
+    pub fn get(&self, place: usize) -> Option<(u32, &K, Bits)>
+        ensures entry { IfSome result (λ found. slice_get self.now.entries place ≡
+            Some (record { holder = found.0; thing = found.1.now; bits = found.2 })) }
+        ensures none { IfNone result (length self.now.entries ≤ place) }
+    {
+        let record = self.records.get(place)?;
+        let thing = self.things.name_of(record.thing)?;
+        Some((record.holder, thing, record.bits))
+    }
+
     /// Makes room for so many pairs and so many things more. What is held stays, after an error too.
     ///
     /// An error comes for want of memory, and where more than 2^32 - 1 pairs or 2^32 things would stand.
@@ -178,5 +206,26 @@ impl<K: Eq + Hash + Drop> HeldBits<K> {
             write(&mut self.records, &mut self.uses, holder, number, bits);
             release(&mut self.things, &self.uses, number);
         }
+    }
+
+    /// The law that no pair has two entries, that none is empty, and that a holder's entries stand side by side. It does
+    /// nothing when it runs.
+    pub fn is_sound(&self)
+        ensures { IsSound K.eq self.now.entries }
+    {
+        self.things.has_each_name_once();
+    }
+}
+
+impl<K: Eq + Hash + Copied> HeldBits<K> {
+    /// The same entries, in memory of their own.
+    pub fn copy(&self, alloc: Global) -> Result<HeldBits<K>, AllocError>
+        ensures { IfOk result (λ made. made.entries ≡ self.now.entries) }
+    {
+        Ok(HeldBits {
+            things: self.things.copy(alloc)?,
+            records: Vec::from_slice(alloc, &self.records)?,
+            uses: Vec::from_slice(alloc, &self.uses)?,
+        })
     }
 }

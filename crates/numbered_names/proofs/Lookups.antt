@@ -7,7 +7,7 @@ use Rattle.std.proofs.lemmas.List.Folds.{list_any_none}
 use Rattle.std.proofs.lemmas.List.Quantifiers.{position-Some}
 use Rattle.std.proofs.lemmas.Map.Keys.{any_passes_from_place, apart_from_distinct}
 use Rattle.std.proofs.lemmas.Option.{slice_get-get_or, slice_get_within, get_or_from_slice_get, none-some, same_Some}
-use Rattle.numbered_names.specs.Numbered.{name_at, is_name, HasEachOnce, IsNew}
+use Rattle.numbered_names.specs.Numbered.{name_at, is_name, HasEachOnce, IsListOf, IsNew}
 use Rattle.numbered_names.specs.Tables.{AreInverse, names_by_number}
 use Rattle.numbered_names.proofs.Numberings.{name_at-place, name_at-past}
 
@@ -142,3 +142,18 @@ module _ {K : Type 0} (eq : K → K → Bool) (laws : IsEquivalence eq) (names :
           sym (inverse.number_of_place one first.0)
           ∙ ap (λ p. get_or numbers p 0) (one_place eq name laws names distinct (get_or places one 0) (get_or places other 0) name stored first.1 second.1 is)
           ∙ inverse.number_of_place other second.0
+
+  -- the names at the places are those that have numbers
+  pub listed : length names ≤ length places → IsListOf eq given names
+  listed taken = record {
+    once = distinct;
+    all = λ number name is.
+        let at = (placed number name is).1 in
+        (get_or places number 0, slice_get_within names (get_or places number 0) name at, get_or_from_slice_get names (get_or places number 0) name name at);
+    stand = λ place d within.
+        let inside : place < length places = omega arith in
+        (get_or numbers place 0, ap (λ (ns : List (Option K)). name_at ns (get_or numbers place 0)) (sym seen)
+        ∙ name_at-place names places (get_or numbers place 0) (inverse.number_within place inside)
+        ∙ ap (slice_get names) (inverse.place_of_number place inside)
+        ∙ slice_get-get_or names place d within);
+  }

@@ -1,6 +1,6 @@
 -- What is seen of numbered names: the names by number, and the spare room.
-use Rattle.std.specs.Prelude.{◌≡◌, refl, ℕ, Bool, false, ◌==◌, List, Option, None, Some, IsTrue, if◌then◌else◌}
-use Rattle.std.specs.List.{slice_index_or}
+use Rattle.std.specs.Prelude.{◌≡◌, refl, ℕ, Bool, false, ◌==◌, List, Option, None, Some, All, IsTrue, if◌then◌else◌}
+use Rattle.std.specs.List.{slice_index_or, Contains, IsDistinct}
 use Rattle.std.specs.Coded.{Coded, code_by, coded×, coded_ℕ, coded_list, coded_option}
 
 -- the name at each number, None at a number that is free, and how many more names fit without memory
@@ -36,3 +36,9 @@ HasEachOnce {K} eq names =
 abbrev pub ChangesOnly : {K : Type 0} → List (Option K) → List (Option K) → ℕ → Option K → Type 0
 ChangesOnly old new number name =
     (other : ℕ) → name_at new other ≡ (if other == number then name else name_at old other)
+
+-- the names that have numbers, each once
+pub record IsListOf {K : Type 0} (eq : K → K → Bool) (names : List (Option K)) (listed : List K) : Type 0 where
+  pub once : IsDistinct eq listed
+  pub all : (number : ℕ) (name : K) → name_at names number ≡ Some name → Contains listed name
+  pub stand : All (λ name. (number : ℕ) × (name_at names number ≡ Some name)) listed

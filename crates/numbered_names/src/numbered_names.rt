@@ -1,6 +1,6 @@
 ghost use Rattle.std.specs.Prelude.{◌≡◌, ◌+◌, ◌<◌, ◌≤◌, ◌↔◌, ℕ, [], None, Some, count_by, is_some, length, max, IfNone, IfOk, IsSome, IsTrue, OnOk};
 ghost use Rattle.std.specs.Option.{option_copied};
-ghost use Rattle.numbered_names.specs.Numbered.{ChangesOnly, HasEachOnce, IsNew, is_name, name_at};
+ghost use Rattle.numbered_names.specs.Numbered.{ChangesOnly, HasEachOnce, IsListOf, IsNew, is_name, name_at};
 
 use crate::set::{copy_of, push, replace};
 use crate::tables::{exchange, first_free};
@@ -102,6 +102,14 @@ impl<K: Eq + Hash + Drop> NumberedNames<K> {
     {
         let place = *self.places.get(number as usize)?;
         self.names.get_index(place as usize)
+    }
+
+    /// The names that stand, in no order that is promised.
+    pub fn as_slice(&self) -> &[K]
+        ensures { IsListOf K.eq self.now.names result.now }
+    {
+        let _ = &self.places;
+        self.names.as_slice()
     }
 
     /// Gives the name a number, a new one only where none is free.
