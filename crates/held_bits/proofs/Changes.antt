@@ -1,14 +1,13 @@
 -- What a write of bits changes of what is held.
-use Rattle.std.proofs.Common.{◌≡◌, ◌≢◌, ◌∙◌, refl, sym, ap, ℕ, zero, suc, Bool, true, false, ◌<◌, ◌≤◌, ◌+◌, ◌-◌, ◌==◌, ◌&&◌, List, [], ◌∷◌, length, get_or, min, Option, None, Some, is_some, nat_lt, if◌then◌else◌, inl, inr, arith}
-use Rattle.std.specs.List.{slice_index}
+use Rattle.std.proofs.Common.{◌≡◌, ◌≢◌, ◌∙◌, refl, sym, ap, ℕ, Bool, true, false, ◌<◌, ◌≤◌, ◌+◌, ◌-◌, ◌==◌, ◌&&◌, List, length, get_or, min, Option, None, Some, is_some, nat_lt, if◌then◌else◌, inl, inr, arith}
 use Rattle.std.specs.Cmp.{IsEquivalence}
-use Rattle.std.proofs.lemmas.Bool.{cases_lt, cases_eq, cases_Bool, eq-eqb, eqb-true, ne_eqb, and_parts, and_from, and_left, and_right, lt-ltb, le-ltb, ltb-true, false_from_ne_true, true_from_ne_false, true≢false}
+use Rattle.std.proofs.lemmas.Bool.{cases_lt, cases_eq, eq-eqb, eqb-true, ne_eqb, and_parts, and_from, and_left, and_right, lt-ltb, le-ltb, ltb-true, false_from_ne_true, true_from_ne_false, true≢false}
 use Rattle.std.proofs.lemmas.List.{get_or_past}
 use Rattle.numbered_names.specs.Numbered.{name_at, is_name, HasEachOnce, IsNew}
 use Rattle.held_bits.specs.declared.bits.Bits.{Bits}
 use Rattle.held_bits.specs.declared.record.Record.{Record}
 use Rattle.held_bits.specs.Bits.{no_bits, are_none, record_count}
-use Rattle.held_bits.specs.HeldBits.{Entry, SetsBits, bits_at, uses_in}
+use Rattle.held_bits.specs.HeldBits.{Entry, SetsBits, bits_at}
 use Rattle.held_bits.specs.Records.{AreUses, IsHeld, bits_in, entries_of, number_uses, record_limit}
 use Rattle.held_bits.specs.Written.{IsWritten}
 use Rattle.held_bits.proofs.Writes.{none_is}
@@ -91,9 +90,14 @@ module _ {K : Type 0} (names : List (Option K)) (rs more : List Record) (us more
     (uses : AreUses rs us) (written : IsWritten rs more us more_us holder number bits) where
   uses_elsewhere : (n : ℕ) → n ≢ number → get_or more_us n 0 ≡ get_or us n 0
   uses_elsewhere n apart =
-      omega (arith, written.uses_are n, uses n, written.counts n,
-      ap (λ (b : Bool). number_uses more n + (if b then record_count (bits_in rs holder number) else 0)) (ne_eqb n number apart),
-      ap (λ (b : Bool). number_uses rs n + (if b then record_count bits else 0)) (ne_eqb n number apart))
+      omega (
+        arith,
+        written.uses_are n,
+        uses n,
+        written.counts n,
+        ap (λ (b : Bool). number_uses more n + (if b then record_count (bits_in rs holder number) else 0)) (ne_eqb n number apart),
+        ap (λ (b : Bool). number_uses rs n + (if b then record_count bits else 0)) (ne_eqb n number apart),
+      )
 
   -- after a thing's number is taken away where it has no records
   module _ (after : List (Option K)) (stands : (n : ℕ) → is_some (name_at names n) ≡ nat_lt 0 (get_or us n 0)) (named : is_some (name_at names number) ≡ true)
@@ -126,7 +130,7 @@ module _ {K : Type 0} (names : List (Option K)) (rs more : List Record) (us more
         ]
       where
         positive : (m : ℕ) → m ≢ 0 → 0 < m
-        positive m some = elim (cases_lt 0 m) [ | inl less ↦ less | inr not_less ↦ absurd (some (omega arith)) ]
+        positive m some = elim (cases_lt 0 m) [ inl less ↦ less | inr not_less ↦ absurd (some (omega arith)) ]
 
   -- after something was written on a number that has a name
   module _ (middle : List (Option K)) (stands : (n : ℕ) → is_some (name_at names n) ≡ nat_lt 0 (get_or us n 0)) (named : is_some (name_at middle number) ≡ true)

@@ -1,14 +1,14 @@
 -- What the entries say, by the records and the names of their numbers.
-use Rattle.std.proofs.Common.{◌≡◌, ◌≢◌, ◌∙◌, refl, sym, ap, subst, ℕ, zero, suc, Bool, true, false, cond, ◌<◌, ◌≤◌, ◌+◌, ◌==◌, ◌&&◌, ◌||◌, ◌++◌, List, [], ◌∷◌, length, get_or, slice_get, Option, None, Some, IsSome, is_some, count_by, nat_lt, if◌then◌else◌, ◌⊎◌, inl, inr, arith}
+use Rattle.std.proofs.Common.{◌≡◌, ◌∙◌, refl, sym, ap, ℕ, zero, suc, Bool, true, false, cond, ◌<◌, ◌+◌, ◌==◌, ◌&&◌, ◌||◌, ◌++◌, List, [], ◌∷◌, length, get_or, Option, None, Some, is_some, if◌then◌else◌, ◌⊎◌, inl, inr, arith}
 use Rattle.std.specs.List.{list_any}
 use Rattle.std.specs.Cmp.{IsEquivalence}
-use Rattle.std.proofs.lemmas.Bool.{cases_Bool, eq-eqb, eqb-true, ne_eqb, and_parts, and_left, and_right, true≢false}
+use Rattle.std.proofs.lemmas.Bool.{cases_Bool, eq-eqb, ne_eqb, and_parts, and_right, true≢false}
 use Rattle.std.proofs.lemmas.List.Sums.{sum_by-cons}
 use Rattle.numbered_names.specs.Numbered.{name_at, is_name, HasEachOnce, IsNew}
 use Rattle.held_bits.specs.declared.bits.Bits.{Bits}
 use Rattle.held_bits.specs.declared.record.Record.{Record}
 use Rattle.held_bits.specs.Bits.{no_bits, are_none}
-use Rattle.held_bits.specs.HeldBits.{Entry, SetsBits, bits_at, is_entry, is_on, thing_count, uses_in}
+use Rattle.held_bits.specs.HeldBits.{Entry, SetsBits, bits_at, is_on, uses_in}
 use Rattle.held_bits.specs.Records.{SetsRecord, bits_in, entries_of, entry_of, has_number, is_record, number_uses}
 
 -- how often a record counts
@@ -165,8 +165,13 @@ module _ {K : Type 0} (eq : K → K → Bool) (laws : IsEquivalence eq) (names :
       by : (o : Option K) → name_at names r.thing ≡ o → uses_in eq (entries_of names rs) thing ≡ number_uses rs n → uses_in eq (entry_of o r ++ entries_of names rs) thing ≡ number_uses (r ∷ rs) n
       by None none rest = omega (arith, rest, uses_cons n r rs, ap one_if (other_number n r.thing thing is none))
       by (Some k) some rest =
-          omega (arith, sum_by-cons (λ x. one_if (is_on eq thing x)) (record { holder = r.holder; thing = k; bits = r.bits }) (entries_of names rs),
-          rest, uses_cons n r rs, ap one_if (same_number n r.thing thing k is some))
+          omega (
+            arith,
+            sum_by-cons (λ x. one_if (is_on eq thing x)) (record { holder = r.holder; thing = k; bits = r.bits }) (entries_of names rs),
+            rest,
+            uses_cons n r rs,
+            ap one_if (same_number n r.thing thing k is some),
+          )
 
   pub any_known : (rs : List Record) (n : ℕ) (thing : K) → is_name eq thing (name_at names n) ≡ true →
       list_any (is_on eq thing) (entries_of names rs) ≡ list_any (has_number n) rs

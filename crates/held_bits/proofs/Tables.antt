@@ -1,14 +1,14 @@
 -- Records in order: what they say, and what an edit changes.
-use Rattle.std.proofs.Common.{◌≡◌, ◌≢◌, ◌∙◌, refl, sym, ap, ℕ, zero, suc, Bool, true, false, cond, ◌<◌, ◌≤◌, ◌+◌, ◌-◌, ◌*◌, ◌^◌, ◌==◌, ◌&&◌, ◌++◌, List, [], ◌∷◌, length, get_or, set, take, drop, if◌then◌else◌, inl, inr, arith}
+use Rattle.std.proofs.Common.{◌≡◌, ◌≢◌, ◌∙◌, refl, sym, ap, ℕ, zero, suc, Bool, true, false, ◌<◌, ◌≤◌, ◌+◌, ◌-◌, ◌*◌, ◌^◌, ◌==◌, ◌&&◌, List, [], ◌∷◌, length, get_or, set, if◌then◌else◌, inl, inr, arith}
 use Rattle.std.specs.List.{All, AllPairs, insert, remove}
 use Rattle.std.specs.List.Sorted.{IsNonDecreasingBy}
-use Rattle.std.proofs.lemmas.Bool.{cases_lt, cases_eq, cases_Bool, eq-eqb, eqb-true, ne_eqb, and_parts, and_from, and_left, and_right, true≢false}
+use Rattle.std.proofs.lemmas.Bool.{cases_lt, cases_eq, cases_Bool, eq-eqb, eqb-true, and_parts, and_from, true≢false}
 use Rattle.std.proofs.lemmas.List.{get_or-set_same, get_or-set_other, length-set}
 use Rattle.std.proofs.lemmas.List.Edits.{get_or-insert_at, get_or-insert_below, get_or-insert_above, length-insert}
 use Rattle.held_bits.specs.declared.bits.Bits.{Bits}
 use Rattle.held_bits.specs.declared.record.Record.{Record}
-use Rattle.held_bits.specs.Bits.{no_bits, are_none}
-use Rattle.held_bits.specs.Records.{IsTable, IsWithin, SetsRecord, bits_in, is_record, rank}
+use Rattle.held_bits.specs.Bits.{no_bits}
+use Rattle.held_bits.specs.Records.{IsTable, SetsRecord, bits_in, is_record, rank}
 use Rattle.held_bits.specs.Written.{FitsAt, StandsAt}
 
 abbrev pub no_record : Record
@@ -136,7 +136,7 @@ module _ (rs : List Record) (holder thing place : ℕ) (table : IsTable rs) (sta
       elim (cases_lt k place) [
         | inl early ↦ omega (arith, table.ascending k place d early stands.inside, stands.holder_is d, stands.thing_is d)
         | inr late ↦
-            let later : place < k = elim (cases_lt place k) [ | inl less ↦ less | inr not_less ↦ absurd (apart (omega arith)) ] in
+            let later : place < k = elim (cases_lt place k) [ inl less ↦ less | inr not_less ↦ absurd (apart (omega arith)) ] in
             omega (arith, table.ascending place k d later below, stands.holder_is d, stands.thing_is d)
       ])
 

@@ -1,12 +1,12 @@
 -- How many things have entries.
-use Rattle.std.proofs.Common.{◌≡◌, ◌∙◌, refl, sym, ap, ℕ, zero, suc, Bool, true, false, cond, ◌<◌, ◌≤◌, ◌+◌, ◌==◌, ◌||◌, ◌++◌, List, [], ◌∷◌, length, Option, None, Some, is_some, count_by, nat_lt, if◌then◌else◌, inl, inr, arith}
+use Rattle.std.proofs.Common.{◌≡◌, ◌∙◌, refl, sym, ap, ℕ, zero, suc, Bool, true, false, ◌<◌, ◌+◌, ◌==◌, ◌||◌, ◌++◌, List, [], ◌∷◌, length, Option, None, Some, is_some, count_by, nat_lt, if◌then◌else◌, inl, inr, arith}
 use Rattle.std.specs.List.{list_any}
 use Rattle.std.specs.Cmp.{IsEquivalence}
 use Rattle.std.proofs.lemmas.Bool.{cases_eq, eq-eqb, ne_eqb, lt-ltb, true≢false}
 use Rattle.std.proofs.lemmas.List.Sums.{sum_by-cons}
 use Rattle.numbered_names.specs.Numbered.{name_at, is_name, HasEachOnce}
 use Rattle.held_bits.specs.declared.record.Record.{Record}
-use Rattle.held_bits.specs.HeldBits.{is_on, thing_count}
+use Rattle.held_bits.specs.HeldBits.{thing_count}
 use Rattle.held_bits.specs.Records.{IsHeld, entries_of, entry_of, has_number, number_uses}
 use Rattle.held_bits.proofs.Entries.{IsNamed, any_known, named_tail, one_if, uses_cons, uses_head}
 use Rattle.held_bits.proofs.Changes.{held_named}
@@ -57,7 +57,7 @@ one_passes (suc n) (suc t) f within =
     ∙ omega arith
 
 -- some record has a number where its count is above 0
-any_used : (n : ℕ) (rs : List Record) → list_any (has_number n) rs ≡ nat_lt 0 (number_uses rs n)
+pub any_used : (n : ℕ) (rs : List Record) → list_any (has_number n) rs ≡ nat_lt 0 (number_uses rs n)
 any_used n [] = refl
 any_used n (r ∷ rs) =
     ap (λ (b : Bool). (n == r.thing) || b) (any_used n rs)

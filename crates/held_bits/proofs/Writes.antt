@@ -1,6 +1,6 @@
 -- What a write of bits does to a table.
-use Rattle.std.proofs.Common.{◌≡◌, ◌≢◌, ◌∙◌, refl, sym, ap, subst, ℕ, zero, suc, Bool, true, false, cond, ◌<◌, ◌≤◌, ◌+◌, ◌-◌, ◌*◌, ◌^◌, ◌==◌, ◌&&◌, ◌++◌, List, [], ◌∷◌, length, get_or, set, take, drop, if◌then◌else◌, inl, inr, arith}
-use Rattle.std.specs.List.{All, AllPairs, insert, remove}
+use Rattle.std.proofs.Common.{◌≡◌, ◌∙◌, refl, sym, ap, subst, ℕ, suc, Bool, true, false, cond, ◌<◌, ◌≤◌, ◌+◌, ◌-◌, ◌==◌, ◌&&◌, List, ◌∷◌, length, get_or, set, take, drop, if◌then◌else◌, inl, inr, arith}
+use Rattle.std.specs.List.{insert, remove}
 use Rattle.std.proofs.lemmas.Bool.{cases_eq, eq-eqb, eqb-true, ne_eqb, and_parts}
 use Rattle.std.proofs.lemmas.List.{get_or-set_same, get_or-set_other, length-set}
 use Rattle.std.proofs.lemmas.List.Edits.{length-insert, length-remove}
@@ -10,7 +10,7 @@ use Rattle.std.proofs.lemmas.List.Sums.{sum_by-insert, sum_by-set, sum_by-remove
 use Rattle.held_bits.specs.declared.bits.Bits.{Bits}
 use Rattle.held_bits.specs.declared.record.Record.{Record}
 use Rattle.held_bits.specs.Bits.{no_bits, are_none, record_count}
-use Rattle.held_bits.specs.Records.{AreUses, IsTable, IsWithin, SetsRecord, bits_in, has_number, number_uses, rank}
+use Rattle.held_bits.specs.Records.{AreUses, IsTable, IsWithin, bits_in, has_number, number_uses, rank}
 use Rattle.held_bits.specs.Written.{FitsAt, IsWritten, StandsAt}
 use Rattle.held_bits.proofs.Tables.{no_record, bits_absent, bits_found, bits_inserted, bits_overwritten, bits_removed, fits_absent, alone, ascending_inserted, ascending_overwritten}
 
@@ -82,11 +82,22 @@ module _ (rs : List Record) (us : List ℕ) (holder thing place : ℕ) (bits : B
       uses_put : AreUses (insert rs place more) (set us thing (get_or us thing 0 + 1))
       uses_put n =
           elim (cases_eq n thing) [
-            | inl same ↦ omega (arith, ap (λ m. get_or (set us thing (get_or us thing 0 + 1)) m 0) same,
-                get_or-set_same us thing (get_or us thing 0 + 1) 0 known, uses thing, uses_more n, ap {B = ℕ} (λ (b : Bool). cond b 1 0) (eq-eqb n thing same),
-                ap (number_uses rs) same)
-            | inr other ↦ omega (arith, get_or-set_other us thing n (get_or us thing 0 + 1) 0 other, uses n, uses_more n,
-                ap {B = ℕ} (λ (b : Bool). cond b 1 0) (ne_eqb n thing other))
+            | inl same ↦ omega (
+              arith,
+              ap (λ m. get_or (set us thing (get_or us thing 0 + 1)) m 0) same,
+              get_or-set_same us thing (get_or us thing 0 + 1) 0 known,
+              uses thing,
+              uses_more n,
+              ap {B = ℕ} (λ (b : Bool). cond b 1 0) (eq-eqb n thing same),
+              ap (number_uses rs) same,
+            )
+            | inr other ↦ omega (
+              arith,
+              get_or-set_other us thing n (get_or us thing 0 + 1) 0 other,
+              uses n,
+              uses_more n,
+              ap {B = ℕ} (λ (b : Bool). cond b 1 0) (ne_eqb n thing other),
+            )
           ]
 
       pub written_in : IsWritten rs (insert rs place more) us (set us thing (get_or us thing 0 + 1)) holder thing bits
@@ -164,11 +175,22 @@ module _ (rs : List Record) (us : List ℕ) (holder thing place : ℕ) (bits : B
       uses_cut : AreUses (remove rs place) (set us thing (get_or us thing 0 - 1))
       uses_cut n =
           elim (cases_eq n thing) [
-            | inl same ↦ omega (arith, ap (λ m. get_or (set us thing (get_or us thing 0 - 1)) m 0) same,
-                get_or-set_same us thing (get_or us thing 0 - 1) 0 known, uses thing, uses_less n, ap {B = ℕ} (λ (b : Bool). cond b 1 0) (eq-eqb n thing same),
-                ap (number_uses rs) same)
-            | inr other ↦ omega (arith, get_or-set_other us thing n (get_or us thing 0 - 1) 0 other, uses n, uses_less n,
-                ap {B = ℕ} (λ (b : Bool). cond b 1 0) (ne_eqb n thing other))
+            | inl same ↦ omega (
+              arith,
+              ap (λ m. get_or (set us thing (get_or us thing 0 - 1)) m 0) same,
+              get_or-set_same us thing (get_or us thing 0 - 1) 0 known,
+              uses thing,
+              uses_less n,
+              ap {B = ℕ} (λ (b : Bool). cond b 1 0) (eq-eqb n thing same),
+              ap (number_uses rs) same,
+            )
+            | inr other ↦ omega (
+              arith,
+              get_or-set_other us thing n (get_or us thing 0 - 1) 0 other,
+              uses n,
+              uses_less n,
+              ap {B = ℕ} (λ (b : Bool). cond b 1 0) (ne_eqb n thing other),
+            )
           ]
 
       pub written_out : IsWritten rs (remove rs place) us (set us thing (get_or us thing 0 - 1)) holder thing bits

@@ -1,5 +1,5 @@
 -- How held bits are kept: records in order, and how many of them each number has.
-use Rattle.std.specs.Prelude.{◌≡◌, ℕ, Bool, true, false, ◌<◌, ◌≤◌, ◌+◌, ◌-◌, ◌*◌, ◌^◌, ◌==◌, ◌&&◌, List, [], ◌∷◌, ◌++◌, Option, None, Some, All, count_by, is_some, length, min, nat_lt, slice_index, if◌then◌else◌}
+use Rattle.std.specs.Prelude.{◌≡◌, ℕ, Bool, false, ◌<◌, ◌≤◌, ◌+◌, ◌-◌, ◌*◌, ◌^◌, ◌==◌, ◌&&◌, List, [], ◌∷◌, ◌++◌, Option, None, Some, All, count_by, is_some, length, nat_lt, slice_index, if◌then◌else◌}
 use Rattle.std.specs.List.{AllPairs}
 use Rattle.numbered_names.specs.Numbered.{name_at}
 use Rattle.held_bits.specs.declared.bits.Bits.{Bits}

@@ -151,9 +151,11 @@ module _ {K : Type 0} (eq : K → K → Bool) (laws : IsEquivalence eq) (names :
         let at = (placed number name is).1 in
         (get_or places number 0, slice_get_within names (get_or places number 0) name at, get_or_from_slice_get names (get_or places number 0) name name at);
     stand = λ place d within.
-        let inside : place < length places = omega arith in
-        (get_or numbers place 0, ap (λ (ns : List (Option K)). name_at ns (get_or numbers place 0)) (sym seen)
-        ∙ name_at-place names places (get_or numbers place 0) (inverse.number_within place inside)
-        ∙ ap (slice_get names) (inverse.place_of_number place inside)
-        ∙ slice_get-get_or names place d within);
+        let inside : place < length places = omega arith in (
+          get_or numbers place 0,
+          ap (λ (ns : List (Option K)). name_at ns (get_or numbers place 0)) (sym seen)
+              ∙ name_at-place names places (get_or numbers place 0) (inverse.number_within place inside)
+              ∙ ap (slice_get names) (inverse.place_of_number place inside)
+              ∙ slice_get-get_or names place d within,
+        );
   }

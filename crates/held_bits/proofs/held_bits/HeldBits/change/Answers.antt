@@ -1,7 +1,6 @@
-use Rattle.std.proofs.Common.{◌≡◌, ◌∙◌, ap, sym, refl, length, ◌+◌, arith}
+use Rattle.std.proofs.Common.{◌∙◌, ap, sym, refl, length, ◌+◌, arith}
 use Rattle.std.proofs.lemmas.Bool.{true≢false}
-use Rattle.held_bits.specs.Bits.{are_none, no_bits, record_count}
-use Rattle.held_bits.specs.HeldBits.{SetsBits, bits_at}
+use Rattle.held_bits.specs.Bits.{record_count}
 use Rattle.std.specs.Vec.{vec_capacity}
 use Rattle.held_bits.specs.Records.{entries_of}
 use Rattle.held_bits.proofs.Writes.{none_is}
@@ -12,8 +11,12 @@ use Rattle.held_bits.proofs.held_bits.HeldBits.change.Goals as goal
 pub write-requires-clause-thing : goal.write-requires-clause-thing
 write-requires-clause-thing g c =
     let s = c.self.inside in
-    omega (arith, s.uses.ok.0, number_within g.K.PartialEq.eq s.things.names s.records.items s.uses.items c.self.invariant
-    c.in-Some.number c.args.thing.now ((c.in-Some.ensures.number c.in-Some.number).0 refl))
+    omega (
+      arith,
+      s.uses.ok.0,
+      number_within g.K.PartialEq.eq s.things.names s.records.items s.uses.items c.self.invariant
+          c.in-Some.number c.args.thing.now ((c.in-Some.ensures.number c.in-Some.number).0 refl),
+    )
 
 pub write-requires-clause-room : goal.write-requires-clause-room
 write-requires-clause-room g c = λ none some.
@@ -32,9 +35,13 @@ write-requires-clause-limit g c = λ none some.
 pub release-requires : goal.release-requires
 release-requires g c =
     let s = c.self.inside in
-    omega (arith, c.write.ensures.written.numbers, ap length c.deref.ensures.value,
-    number_within g.K.PartialEq.eq s.things.names s.records.items s.uses.items c.self.invariant
-    c.in-Some.number c.args.thing.now ((c.in-Some.ensures.number c.in-Some.number).0 refl))
+    omega (
+      arith,
+      c.write.ensures.written.numbers,
+      ap length c.deref.ensures.value,
+      number_within g.K.PartialEq.eq s.things.names s.records.items s.uses.items c.self.invariant
+          c.in-Some.number c.args.thing.now ((c.in-Some.ensures.number c.in-Some.number).0 refl),
+    )
 
 pub invariant_of-self : goal.invariant_of-self
 invariant_of-self g c =

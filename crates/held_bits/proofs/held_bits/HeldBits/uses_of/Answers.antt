@@ -8,8 +8,12 @@ use Rattle.held_bits.proofs.held_bits.HeldBits.uses_of.Goals as goal
 pub index-requires : goal.index-requires
 index-requires g c =
     let s = c.self.inside in
-    omega (arith, s.uses.ok.0, number_within g.K.PartialEq.eq s.things.names s.records.items s.uses.items c.self.invariant
-    c.in-Some.number c.args.thing.now ((c.in-Some.ensures.number c.in-Some.number).0 refl))
+    omega (
+      arith,
+      s.uses.ok.0,
+      number_within g.K.PartialEq.eq s.things.names s.records.items s.uses.items c.self.invariant
+          c.in-Some.number c.args.thing.now ((c.in-Some.ensures.number c.in-Some.number).0 refl),
+    )
 
 pub returns-in-Some : goal.returns-in-Some
 returns-in-Some g c =

@@ -1,5 +1,4 @@
 use Rattle.std.proofs.Common.{ap}
-use Rattle.numbered_names.specs.Numbered.{IsListOf}
 use Rattle.numbered_names.proofs.Lookups.{listed}
 use Rattle.numbered_names.proofs.numbered_names.NumberedNames.as_slice.Goals as goal
 
