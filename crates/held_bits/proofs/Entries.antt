@@ -111,6 +111,24 @@ module _ {K : Type 0} (eq : K → K → Bool) (names : List (Option K)) where
           ap (λ (b : Bool). if b then r.bits else bits_at eq (entries_of names rs) h thing) (and_right (h == r.holder) (eq thing k) other)
           ∙ rest
 
+  pub any_new : (rs : List Record) (thing : K) → IsNew eq names thing → list_any (is_on eq thing) (entries_of names rs) ≡ false
+  any_new [] thing new = refl
+  any_new (r ∷ rs) thing new = by (name_at names r.thing) (new r.thing) (any_new rs thing new)
+    where
+      by : (o : Option K) → is_name eq thing o ≡ false → list_any (is_on eq thing) (entries_of names rs) ≡ false →
+          list_any (is_on eq thing) (entry_of o r ++ entries_of names rs) ≡ false
+      by None none rest = rest
+      by (Some k) other rest = ap (λ (b : Bool). b || list_any (is_on eq thing) (entries_of names rs)) other ∙ rest
+
+  -- a thing that has an entry has a number
+  pub number_of_known : (rs : List Record) (thing : K) → list_any (is_on eq thing) (entries_of names rs) ≡ true →
+      (n : ℕ) × (is_name eq thing (name_at names n) ≡ true)
+  number_of_known rs thing known =
+      elim (find_name eq names thing) [
+        | inl there ↦ there
+        | inr new ↦ absurd (true≢false (sym known ∙ any_new rs thing new))
+      ]
+
   pub uses_new : (rs : List Record) (thing : K) → IsNew eq names thing → uses_in eq (entries_of names rs) thing ≡ 0
   uses_new [] thing new = refl
   uses_new (r ∷ rs) thing new = by (name_at names r.thing) (new r.thing) (uses_new rs thing new)

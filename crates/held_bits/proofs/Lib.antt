@@ -4,3 +4,4 @@ pub mod Entries
 pub mod Changes
 pub mod Things
 pub mod Sound
+pub mod Readings

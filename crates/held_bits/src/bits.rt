@@ -13,7 +13,7 @@ pub struct Bits {
 impl Bits {
     /// Nothing granted and nothing restricted.
     pub fn none() -> Bits
-        ensures { result ≡ no_bits }
+        ensures is { result ≡ no_bits }
     {
         Bits {
             granted: 0,

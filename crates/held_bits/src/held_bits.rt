@@ -1,6 +1,7 @@
-ghost use Rattle.std.specs.Prelude.{◌≡◌, ◌+◌, ◌<◌, ◌≤◌, ◌↔◌, ℕ, false, [], None, Some, length, slice_get, IfNone, IfOk, IfSome, IsTrue, OnOk};
-ghost use Rattle.held_bits.specs.Bits.{are_none, no_bits, record_count};
-ghost use Rattle.held_bits.specs.HeldBits.{bits_at, thing_count, uses_in, AreThings, IsFirstOf, IsSound, SetsBits};
+ghost use Rattle.std.specs.Prelude.{◌≡◌, ◌+◌, ◌<◌, ◌≤◌, ◌↔◌, ℕ, false, true, [], None, Some, length, slice_get, IfNone, IfOk, IfSome, IsTrue, OnOk};
+ghost use Rattle.std.specs.List.{list_any};
+ghost use Rattle.held_bits.specs.Bits.{are_none, no_bits, record_count, AreWithin};
+ghost use Rattle.held_bits.specs.HeldBits.{bits_at, is_on, thing_count, uses_in, AreThings, IsFirstOf, IsSound, SetsBits};
 
 use crate::Bits;
 use crate::numbers::{number_for, release};
@@ -91,6 +92,7 @@ impl<K: Eq + Hash + Drop> HeldBits<K> {
     /// What the holder holds on the thing.
     pub fn bits(&self, holder: u32, thing: &K) -> Bits
         ensures is { result ≡ bits_at K.eq self.now.entries holder thing.now }
+        ensures within { AreWithin result }
     {
         self.things.has_each_name_once();
         match self.things.number_of(thing) {
@@ -121,6 +123,7 @@ impl<K: Eq + Hash + Drop> HeldBits<K> {
         ensures entry { IfSome result (λ found. slice_get self.now.entries place ≡
             Some (record { holder = found.0; thing = found.1.now; bits = found.2 })) }
         ensures none { IfNone result (length self.now.entries ≤ place) }
+        ensures within { IfSome result (λ found. AreWithin found.2) }
     {
         let record = self.records.get(place)?;
         let thing = self.things.name_of(record.thing)?;
@@ -156,6 +159,7 @@ impl<K: Eq + Hash + Drop> HeldBits<K> {
         ensures record_room { self.new.record_room + length self.new.entries ≡
             self.old.record_room + length self.old.entries }
         ensures thing_room { self.old.thing_room ≤ self.new.thing_room + 1 }
+        ensures known_thing { list_any (is_on K.eq thing) self.old.entries ≡ true → self.old.thing_room ≤ self.new.thing_room }
     {
         if bits.are_none() {
             self.clear(holder, &thing);

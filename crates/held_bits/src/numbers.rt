@@ -23,6 +23,9 @@ pub fn number_for<K: Eq + Hash + Drop>(
         name_at things.new.names n ≡ name_at things.old.names n }
     ensures others { (n : ℕ) → n ≢ result → name_at things.new.names n ≡ name_at things.old.names n }
     ensures room { things.old.room ≤ things.new.room + 1 }
+    ensures known { (n : ℕ) → IsTrue (is_name K.eq thing (name_at things.old.names n)) →
+        (things.old.room ≤ things.new.room)
+        × (vec_capacity uses.old - vec_len uses.old ≤ vec_capacity uses.new - vec_len uses.new) }
     ensures uses_room { vec_capacity uses.old - vec_len uses.old ≤ vec_capacity uses.new - vec_len uses.new + 1 }
 {
     if let Some(number) = things.number_of(&thing) {

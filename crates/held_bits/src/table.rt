@@ -2,7 +2,7 @@
 ghost use Rattle.std.specs.Prelude.{◌≡◌, ◌+◌, ◌-◌, ◌<◌, ◌≤◌, ℕ, false, true, length, slice_index, slice_set, vec_capacity, vec_len, IfErr, IfOk};
 ghost use Rattle.std.specs.List.{insert, remove, slice_index_or};
 ghost use Rattle.held_bits.specs.declared.record.Record.{Record};
-ghost use Rattle.held_bits.specs.Bits.{are_none};
+ghost use Rattle.held_bits.specs.Bits.{are_none, AreWithin};
 ghost use Rattle.held_bits.specs.Records.{AreUses, IsTable, IsWithin, bits_in, number_uses, rank as rank_of, record_limit};
 ghost use Rattle.held_bits.specs.Written.{FitsAt, IsWritten, StandsAt};
 
@@ -36,7 +36,8 @@ pub fn place_of(records: &[Record], holder: u32, thing: u32) -> Result<usize, us
 // What the holder holds on the thing of the number.
 pub fn bits_of(records: &[Record], holder: u32, thing: u32) -> Bits
     requires { IsTable records.now }
-    ensures { result ≡ bits_in records.now holder thing }
+    ensures is { result ≡ bits_in records.now holder thing }
+    ensures within { AreWithin result }
 {
     match place_of(records, holder, thing) {
         Ok(place) => records[place].bits,
