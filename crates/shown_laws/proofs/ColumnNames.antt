@@ -119,6 +119,10 @@ module _ (held : Held) (listing : Listing) (a : AuthId) (orderly : IsOrderly hel
       by true holds = listed.column s t c p holds
       by false holds = refl
 
+  -- some column is listed where one is held
+  pub some_columns : (p : ℕ) (c : List ℕ) → held.on_column s t c p ≡ true → is_some_list (columns_held held listing (s, t) p) ≡ true
+  some_columns p c holds = some_from_member c (columns_held held listing (s, t) p) (member_held p c ∙ holds)
+
   listed_held : (p : ℕ) (c : List ℕ) → listed_at (columns_held held listing (s, t)) p c ≡ held.on_column s t c p
   listed_held p c = by (held.on_column s t c p) refl
     where

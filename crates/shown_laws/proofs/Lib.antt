@@ -5,3 +5,4 @@ pub mod Orderly
 pub mod Runs
 pub mod Steps
 pub mod Tests
+pub mod Whole

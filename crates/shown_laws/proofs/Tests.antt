@@ -64,3 +64,12 @@ joined_pair stood false named is = never is
 -- with an option besides
 pub joined_option : (stood option listed named : Bool) → listed ≡ true → (((option && listed) && named) || (stood && true)) ≡ (stood || (option && named))
 joined_option stood option listed named is = joined stood option listed named is
+
+-- a line that stands where its test may pass
+pub line_stands : (stands meant passes : Bool) → (passes ≡ true → stands ≡ true) → (stands && (meant && passes)) ≡ (meant && passes)
+line_stands stands meant true there = ap (λ t. t && (meant && true)) (there refl)
+line_stands stands meant false there = ap (λ t. stands && t) (none meant) ∙ none stands ∙ sym (none meant)
+  where
+    none : (x : Bool) → (x && false) ≡ false
+    none true = refl
+    none false = refl
