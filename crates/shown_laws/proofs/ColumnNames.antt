@@ -1,5 +1,5 @@
 -- What the lists of columns name that are made of tests.
-use Rattle.std.proofs.Common.{◌≡◌, ◌∙◌, ap, sym, refl, ℕ, zero, suc, ◌+◌, ◌<◌, ◌≤◌, ◌^◌, ◌==◌, nat_lt, Bool, true, false, cond, not, ◌&&◌, ◌||◌, List, [], ◌∷◌, ◌++◌, length, filter, inl, inr, arith}
+use Rattle.std.proofs.Common.{◌≡◌, ◌∙◌, ap, sym, refl, ℕ, zero, suc, ◌+◌, ◌<◌, ◌≤◌, ◌^◌, ◌==◌, nat_lt, Bool, true, false, cond, not, ◌&&◌, ◌||◌, List, [], ◌∷◌, length, filter, inl, inr, arith}
 use Rattle.std.proofs.Math.Bool.{or-false}
 use Rattle.std.proofs.lemmas.Bool.{and_from, and_parts, cases_eq, cases_lt, eq-eqb, lt-ltb, ne_eqb, not-true, not_from_false, or_parts}
 use Rattle.std.proofs.lemmas.List.Folds.{list_any-append}
@@ -15,7 +15,6 @@ use Rattle.accepted_lists.proofs.Named.{level_below}
 use Rattle.listed_privileges.specs.Columns.{column_list, column_list_if, column_lists}
 use Rattle.priv_sets.specs.Levels.{has_level}
 use Rattle.priv_sets.specs.declared.level.Level.TheVariants as level
-use Rattle.show_grants.specs.Keys.{Pair}
 use Rattle.show_grants.specs.Lines.{columns_held, table_privileges}
 use Rattle.show_grants.specs.Listing.{Listing}
 use Rattle.show_grants.specs.Rights.{Held}
@@ -150,6 +149,7 @@ module _ (held : Held) (listing : Listing) (a : AuthId) (orderly : IsOrderly hel
           list_any-append (λ l. l.privilege == n && list_any (text_eq d) l.names) (column_list q (names q)) (column_lists (suc q) left names)
           ∙ ap (λ x. x || named_in (column_lists (suc q) left names) n d) (one_named q (names q) n d (is_column_list q (names q)) refl ∙ ap (λ x. x && listed_at names q d) (ne_eqb q n (λ same. omega arith)))
           ∙ lists_above left (suc q) n names d (omega arith)
+
       not_held : (u : Bool) → held.on_column s t c p ≡ u → 31 ≤ p → u ≡ false
       not_held true holds above = let below : p < 31 = level_below level.Column p (orderly.column_level s t c p holds) in absurd (omega arith)
       not_held false fails above = refl

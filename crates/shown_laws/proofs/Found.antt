@@ -1,12 +1,9 @@
 -- What a test finds among keys.
-use Rattle.std.proofs.Common.{◌≡◌, ◌∙◌, ap, sym, refl, ℕ, ◌<◌, Bool, true, false, cond, ◌&&◌, ◌||◌, List, [], ◌∷◌, ◌++◌, filter, inl, inr}
+use Rattle.std.proofs.Common.{◌≡◌, ◌∙◌, ap, sym, refl, ℕ, ◌<◌, Bool, true, false, cond, ◌&&◌, ◌||◌, List, [], ◌∷◌, filter, inl, inr}
 use Rattle.std.proofs.lemmas.Bool.{and_from, and_parts, or_cases, or_left, or_right}
-use Rattle.std.proofs.lemmas.List.Folds.{list_any-append}
-use Rattle.std.specs.List.{flat_map, list_any}
-use Rattle.acl_names.proofs.SameAuth.{equal_from_same_auth, equal_from_text_eq, same_auth_itself, text_eq_itself}
-use Rattle.acl_names.specs.AuthId.{same_auth}
+use Rattle.std.specs.List.{list_any}
+use Rattle.acl_names.proofs.SameAuth.{equal_from_text_eq, text_eq_itself}
 use Rattle.acl_names.specs.Text.{text_eq}
-use Rattle.acl_names.specs.declared.auth.AuthId.{AuthId}
 use Rattle.listed_privileges.proofs.Bits.{some_below_from}
 use Rattle.listed_privileges.specs.Sets.{some_below}
 use Rattle.show_grants.specs.Keys.{Pair, same_pair}
@@ -53,6 +50,7 @@ module _ {K : Type 0} (same : K → K → Bool) (equal : (a b : K) → same a b 
       step false true here fails rest =
           let failed : p k ≡ false = ap p (equal k first here) ∙ fails in rest ∙ rw failed refl
       step false false other fails rest = rest
+
       by : (t : Bool) → p first ≡ t → list_any (same k) (filter p keys) ≡ (p k && list_any (same k) keys)
           → list_any (same k) (cond t (first ∷ filter p keys) (filter p keys)) ≡ (p k && (same k first || list_any (same k) keys))
       by t is rest = step t (same k first) refl is rest

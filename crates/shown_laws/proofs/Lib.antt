@@ -1,5 +1,6 @@
 pub mod ColumnNames
 pub mod Found
+pub mod Marks
 pub mod NamedLists
 pub mod Orderly
 pub mod Runs

@@ -1,10 +1,8 @@
 -- What the lists of privileges name that are made of tests.
-use Rattle.std.proofs.Common.{◌≡◌, ◌∙◌, ap, sym, refl, ℕ, ◌<◌, ◌==◌, Bool, true, false, not, ◌&&◌, ◌||◌, List, [], inl, inr, arith}
-use Rattle.std.proofs.lemmas.Bool.{and_parts, cases_eq, eq-eqb, eqb-true, ne_eqb}
+use Rattle.std.proofs.Common.{◌≡◌, ◌∙◌, ap, sym, refl, ℕ, ◌<◌, ◌==◌, Bool, true, false, not, ◌&&◌, ◌||◌, List}
+use Rattle.std.proofs.lemmas.Bool.{and_parts, eqb-true}
 use Rattle.std.proofs.lemmas.Nat.Bits.{bit_at-zero}
-use Rattle.std.specs.Int.{bit_at}
 use Rattle.acl_model.specs.Words.{is_dynamic_alone, names_dynamic, names_static}
-use Rattle.acl_stmt.specs.declared.privileges.PrivList.{PrivList}
 use Rattle.listed_privileges.proofs.Bits.{bits_are, some_bits}
 use Rattle.listed_privileges.specs.Sets.{bits_below, but_option, some_below}
 use Rattle.priv_sets.specs.Levels.{grant_option}

@@ -1,5 +1,5 @@
 -- What one printed statement does to a row of the account, and which rows it leaves.
-use Rattle.std.proofs.Common.{◌≡◌, ◌∙◌, ap, sym, refl, ℕ, ◌==◌, Bool, true, false, not, ◌&&◌, ◌||◌, List, [], ◌∷◌}
+use Rattle.std.proofs.Common.{◌≡◌, ℕ, ◌==◌, Bool, true, false, not, ◌&&◌, ◌||◌, List, [], ◌∷◌}
 use Rattle.std.proofs.Math.Bool.{and-true}
 use Rattle.std.proofs.lemmas.Bool.{or_left}
 use Rattle.acl_names.proofs.SameAuth.{same_auth_itself}
@@ -11,7 +11,7 @@ use Rattle.acl_model.specs.Rows.{lists}
 use Rattle.acl_model.specs.State.{State}
 use Rattle.acl_model.specs.Words.{is_dynamic_alone, names_column, names_dynamic, names_static}
 use Rattle.acl_model.specs.declared.row.Row.{Row}
-use Rattle.acl_model.specs.declared.row.Row.TheVariants.{Account, Global, Dynamic, DynamicGrant, Schema, Table, Column, Function, Procedure, Edge, Admin, Default, Restriction}
+use Rattle.acl_model.specs.declared.row.Row.TheVariants.{Global, Dynamic, DynamicGrant, Schema, Table, Column, Function, Procedure, Edge, Admin, Restriction}
 use Rattle.acl_stmt.specs.declared.privileges.PrivList.{PrivList}
 use Rattle.acl_stmt.specs.declared.statement.Statement.TheVariants.{Grant, GrantRoles, Revoke}
 use Rattle.acl_stmt.specs.declared.target.Target.{Target}

@@ -1,5 +1,5 @@
 -- Tests that say the same in another order.
-use Rattle.std.proofs.Common.{◌≡◌, ◌∙◌, ap, sym, refl, Bool, true, false, cond, not, ◌&&◌, ◌||◌, true≢false}
+use Rattle.std.proofs.Common.{◌≡◌, ◌∙◌, ap, sym, refl, Bool, true, false, not, ◌&&◌, ◌||◌, true≢false}
 
 pub never : {A : Type 0} → false ≡ true → A
 never is = absurd (true≢false (sym is))

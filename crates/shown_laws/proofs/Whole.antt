@@ -1,14 +1,12 @@
 -- What all lines together add to a row of the account, kind by kind.
-use Rattle.std.proofs.Common.{◌≡◌, ◌∙◌, ap, sym, refl, ℕ, ◌<◌, ◌==◌, Bool, true, false, cond, not, ◌&&◌, ◌||◌, List, [], ◌∷◌, ◌++◌, filter}
+use Rattle.std.proofs.Common.{◌≡◌, ◌∙◌, ap, refl, ℕ, ◌<◌, Bool, true, false, cond, not, ◌&&◌, ◌||◌, List, [], ◌∷◌, ◌++◌}
 use Rattle.std.proofs.Math.Bool.{or-false}
 use Rattle.std.proofs.lemmas.Bool.{and_parts, or_left, or_right}
 use Rattle.std.specs.List.{flat_map, list_any}
 use Rattle.acl_names.proofs.SameAuth.{equal_from_same_auth, same_auth_itself}
 use Rattle.acl_names.specs.AuthId.{same_auth}
-use Rattle.acl_names.specs.Text.{text_eq}
 use Rattle.acl_names.specs.declared.auth.AuthId.{AuthId}
 use Rattle.acl_model.specs.Rows.{lists}
-use Rattle.acl_model.specs.State.{State}
 use Rattle.acl_model.specs.Words.{is_dynamic_alone, names_column, names_dynamic}
 use Rattle.acl_model.specs.declared.row.Row.{Row}
 use Rattle.acl_model.specs.declared.row.Row.TheVariants.{Account, Global, Dynamic, DynamicGrant, Table, Column, Function, Procedure, Edge, Admin}
