@@ -1,0 +1,5 @@
+//! What SHOW GRANTS prints of an account, carried out again, gives the account the same rights: laws, each the contract of a
+//! function that does nothing.
+//!
+//! MySQL 8.0 Reference Manual, "SHOW GRANTS Statement".
+#![tactic(auto)]
