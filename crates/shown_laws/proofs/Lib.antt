@@ -1,8 +1,10 @@
 pub mod ColumnNames
+pub mod Feasible
 pub mod Found
 pub mod Marks
 pub mod NamedLists
 pub mod Orderly
+pub mod Passing
 pub mod Runs
 pub mod Steps
 pub mod Tests
