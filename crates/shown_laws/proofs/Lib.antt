@@ -1,6 +1,10 @@
 pub mod ColumnNames
+pub mod Entries
 pub mod Feasible
 pub mod Found
+pub mod Holders
+pub mod InOrder
+pub mod Legal
 pub mod Marks
 pub mod NamedLists
 pub mod Orderly
