@@ -4,6 +4,7 @@ use Rattle.std.proofs.lemmas.Bool.{or_right}
 use Rattle.acl_names.proofs.SameAuth.{equal_from_same_auth, same_auth_itself}
 use Rattle.acl_names.specs.AuthId.{same_auth}
 use Rattle.acl_names.specs.declared.auth.AuthId.{AuthId}
+use Rattle.accepted_lists.specs.Listed.{is_account}
 use Rattle.acl_model.specs.Rows.{holder, some_name}
 use Rattle.acl_model.specs.State.{State}
 use Rattle.acl_model.specs.declared.row.Row.{Row}
@@ -16,7 +17,7 @@ use Rattle.shown_laws.proofs.Marks.{Marked, all_marks}
 use Rattle.shown_laws.proofs.Orderly.{IsListed, IsOrderly}
 use Rattle.shown_laws.proofs.Runs.{Adds}
 use Rattle.shown_laws.proofs.Whole.{account_adds, admin_adds, column_adds, dynamic_adds, edge_adds, function_adds, global_adds, grantable_adds, procedure_adds, table_adds}
-use Rattle.shown_laws.specs.Known.{IsBare, is_account, is_default}
+use Rattle.shown_laws.specs.Known.{IsBare, is_default}
 use Rattle.std.proofs.Math.Bool.{or-false}
 
 -- what is held, as a row of the account

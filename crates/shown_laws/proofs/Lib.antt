@@ -8,8 +8,10 @@ pub mod Legal
 pub mod Marks
 pub mod NamedLists
 pub mod Orderly
+pub mod Own
 pub mod Passing
 pub mod Runs
+pub mod Shown
 pub mod Steps
 pub mod Tests
 pub mod Whole
