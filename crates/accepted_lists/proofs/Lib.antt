@@ -1,6 +1,9 @@
 pub mod Beside
+pub mod Columns
 pub mod Histories
+pub mod Longest
 pub mod Named
 pub mod Renamed
 pub mod Rules
 pub mod Splits
+pub mod Within

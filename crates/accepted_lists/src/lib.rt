@@ -6,4 +6,4 @@
 
 mod laws;
 
-pub use laws::accepted_statements_keep_rows_sound;
+pub use laws::{accepted_statements_keep_rows_sound, accepted_statements_stay_within_limits};

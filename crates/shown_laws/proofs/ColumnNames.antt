@@ -62,7 +62,7 @@ lists_named (suc left) q p names c from below =
 
 -- ---- the columns that are held make a list
 
-all-filter : {X : Type 0} (test passes : X → Bool) → ((x : X) → passes x ≡ true → test x ≡ true) → (xs : List X) → list_all test (filter passes xs) ≡ true
+pub all-filter : {X : Type 0} (test passes : X → Bool) → ((x : X) → passes x ≡ true → test x ≡ true) → (xs : List X) → list_all test (filter passes xs) ≡ true
 all-filter test passes each [] = refl
 all-filter test passes each (x ∷ xs) = by (passes x) refl (all-filter test passes each xs)
   where

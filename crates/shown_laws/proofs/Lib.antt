@@ -1,9 +1,17 @@
 pub mod ColumnNames
+pub mod Entries
+pub mod Feasible
 pub mod Found
+pub mod Holders
+pub mod InOrder
+pub mod Legal
 pub mod Marks
 pub mod NamedLists
 pub mod Orderly
+pub mod Own
+pub mod Passing
 pub mod Runs
+pub mod Shown
 pub mod Steps
 pub mod Tests
 pub mod Whole

@@ -329,7 +329,7 @@ module _ (a : AuthId) (held : Held) (listing : Listing) where
 
     -- ---- roles
 
-    role_chosen : (r : AuthId) (b : Bool) → lists (roles_of held listing b) r ≡ (held.role r && cond b (held.admin r) (not (held.admin r)))
+    pub role_chosen : (r : AuthId) (b : Bool) → lists (roles_of held listing b) r ≡ (held.role r && cond b (held.admin r) (not (held.admin r)))
     role_chosen r b =
         any-filter same_auth equal_from_same_auth same_auth_itself (λ x. held.role x && cond b (held.admin x) (not (held.admin x))) r listing.roles
         ∙ by (held.role r) (cond b (held.admin r) (not (held.admin r))) refl

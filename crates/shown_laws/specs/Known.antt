@@ -3,15 +3,12 @@ use Rattle.std.specs.Prelude.{ℕ, ◌≡◌, ◌<◌, ◌^◌, Bool, true, fals
 use Rattle.std.specs.List.{list_any}
 use Rattle.acl_names.specs.AuthId.{same_auth}
 use Rattle.acl_names.specs.declared.auth.AuthId.{AuthId}
+use Rattle.accepted_lists.specs.Listed.{is_account}
 use Rattle.acl_model.specs.Rows.{holder, same_row, some_name}
 use Rattle.acl_model.specs.State.{State, stands}
 use Rattle.acl_model.specs.declared.row.Row.{Row}
-use Rattle.acl_model.specs.declared.row.Row.TheVariants.{Account, Column, Default, Edge}
+use Rattle.acl_model.specs.declared.row.Row.TheVariants.{Column, Default, Edge}
 use Rattle.show_grants.specs.Listing.{listing_of}
-
-abbrev pub is_account : Row → Bool
-is_account (Account a) = true
-is_account _ = false
 
 abbrev pub is_default : Row → Bool
 is_default (Default of role) = true

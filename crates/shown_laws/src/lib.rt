@@ -3,3 +3,7 @@
 //!
 //! MySQL 8.0 Reference Manual, "SHOW GRANTS Statement".
 #![tactic(auto)]
+
+mod laws;
+
+pub use laws::{shown_lines_are_read_back, shown_lines_of_a_history_are_read_back};
