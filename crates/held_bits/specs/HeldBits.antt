@@ -1,5 +1,5 @@
 -- What is seen of held bits: what each holder holds on each thing, and the spare room.
-use Rattle.std.specs.Prelude.{◌≡◌, refl, ℕ, Bool, true, false, ◌<◌, ◌≤◌, ◌+◌, ◌^◌, ◌==◌, ◌&&◌, List, [], ◌∷◌, All, count_by, length, if◌then◌else◌}
+use Rattle.std.specs.Prelude.{◌≡◌, refl, ℕ, Bool, true, false, ◌<◌, ◌≤◌, ◌+◌, ◌^◌, ◌==◌, ◌&&◌, List, [], ◌∷◌, Some, All, count_by, length, slice_get, if◌then◌else◌}
 use Rattle.std.specs.List.{list_any, AllPairs, AllWithin, Contains, IsDistinct}
 use Rattle.std.specs.List.Sorted.{IsNonDecreasingBy}
 use Rattle.std.specs.Coded.{Coded, code_by, coded×, coded_ℕ, coded_list}
@@ -87,6 +87,12 @@ pub record IsSound {K : Type 0} (eq : K → K → Bool) (entries : List (Entry K
   pub some : All (λ entry. are_none entry.bits ≡ false) entries
   pub ordered : IsNonDecreasingBy (λ entry. entry.holder) entries
   pub within : All IsNumbered entries
+
+-- the entry at a place has these bits now, or is gone where they are none, and all else stays
+pub record ReplacesAt {K : Type 0} (eq : K → K → Bool) (old new : List (Entry K)) (place : ℕ) (bits : Bits) : Type 0 where
+  pub sets : (entry : Entry K) → slice_get old place ≡ Some entry → SetsBits eq old new entry.holder entry.thing bits
+  pub uses : (entry : Entry K) → slice_get old place ≡ Some entry → CountsUses eq old new entry.thing entry.bits bits
+  pub things : (entry : Entry K) → slice_get old place ≡ Some entry → CountsThings eq old new entry.thing
 
 -- the entries of the holders before one stand before a place, and those of the holder and of later ones from it on
 pub record IsFirstOf {K : Type 0} (entries : List (Entry K)) (holder place : ℕ) : Type 0 where
