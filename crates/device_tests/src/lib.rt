@@ -1,10 +1,13 @@
-//! Tests of the crates that know nothing of accounts: devices, lists, masks, grammars, and the graph of roles.
+//! Tests of the crates that know nothing of accounts: devices, lists, what holders hold on things, masks, grammars, and the
+//! graph of roles.
 #![tactic(auto)]
 
 #[cfg(test)]
 mod disks;
 #[cfg(test)]
 mod files;
+#[cfg(test)]
+mod held;
 #[cfg(test)]
 mod lists;
 #[cfg(test)]

@@ -7,15 +7,12 @@ use Rattle.numbered_names.specs.Numbered.{name_at, is_name, HasEachOnce, IsNew}
 use Rattle.held_bits.specs.declared.bits.Bits.{Bits}
 use Rattle.held_bits.specs.declared.record.Record.{Record}
 use Rattle.held_bits.specs.Bits.{no_bits, are_none, record_count}
-use Rattle.held_bits.specs.HeldBits.{Entry, SetsBits, bits_at}
+use Rattle.held_bits.specs.HeldBits.{CountsThings, CountsUses, Entry, SetsBits, bits_at, has_thing, thing_count, uses_in}
 use Rattle.held_bits.specs.Records.{AreUses, IsHeld, bits_in, entries_of, number_uses, record_limit}
 use Rattle.held_bits.specs.Written.{IsWritten}
 use Rattle.held_bits.proofs.Writes.{none_is}
-use Rattle.held_bits.proofs.Entries.{IsNamed, bits_known, bits_new, entries_length, entries_same, held_counted, sets_bits}
-
-pub is_some_from_name : {K : Type 0} (eq : K → K → Bool) (thing : K) (o : Option K) → is_name eq thing o ≡ true → is_some o ≡ true
-is_some_from_name eq thing None is = absurd (true≢false (sym is))
-is_some_from_name eq thing (Some k) is = refl
+use Rattle.held_bits.proofs.Things.{things_changed}
+use Rattle.held_bits.proofs.Entries.{IsNamed, bits_known, bits_new, entries_length, entries_same, held_counted, is_some_from_name, sets_bits, uses_changed}
 
 -- a number that is used is one of the table
 pub used_within : (us : List ℕ) (n : ℕ) → 0 < get_or us n 0 → n < length us
@@ -79,6 +76,39 @@ module _ {K : Type 0} (eq : K → K → Bool) (laws : IsEquivalence eq) (names m
       ≡ length (entries_of names rs) + record_count bits
   count_after =
       omega (arith, entries_length after more all_after, entries_length names rs all, written.count, ap record_count known_bits)
+
+  named_rs : IsNamed middle rs
+  named_rs = record { named = λ n used. ap is_some (same n used) ∙ all.named n used }
+
+  named_more : IsNamed middle more
+  named_more = record { named = λ n used. ap is_some (sym (kept n used)) ∙ all_after.named n used }
+
+  pub uses_after : CountsUses eq (entries_of names rs) (entries_of after more) thing (bits_at eq (entries_of names rs) holder thing) bits
+  uses_after k =
+      omega (
+        arith,
+        ap (λ (es : List (Entry K)). uses_in eq es k) (entries_same middle after more kept),
+        ap (λ (es : List (Entry K)). uses_in eq es k) (entries_same names middle rs same),
+        ap (λ (b : Bits). if eq k thing then record_count b else 0) known_bits,
+        uses_changed eq laws middle once rs more number thing (record_count (bits_in rs holder number)) (record_count bits) is written.counts k,
+      )
+
+  pub things_after : CountsThings eq (entries_of names rs) (entries_of after more) thing
+  things_after =
+      omega (
+        arith,
+        ap (thing_count eq) (entries_same middle after more kept),
+        ap (thing_count eq) (entries_same names middle rs same),
+        ap {B = ℕ} (λ (es : List (Entry K)). if has_thing eq es thing then 1 else 0) (entries_same middle after more kept),
+        ap {B = ℕ} (λ (es : List (Entry K)). if has_thing eq es thing then 1 else 0) (entries_same names middle rs same),
+        things_changed eq laws middle once rs more named_rs named_more number thing is (λ n apart.
+            omega (
+              arith,
+              written.counts n,
+              ap (λ (b : Bool). number_uses more n + (if b then record_count (bits_in rs holder number) else 0)) (ne_eqb n number apart),
+              ap (λ (b : Bool). number_uses rs n + (if b then record_count bits else 0)) (ne_eqb n number apart),
+            )),
+      )
 
   pub room_after : (capacity : ℕ) → length rs ≤ capacity → length more ≤ capacity → length rs ≤ record_limit → length more ≤ record_limit →
       (min record_limit capacity - length more) + length (entries_of after more) ≡ (min record_limit capacity - length rs) + length (entries_of names rs)
@@ -170,6 +200,11 @@ none_set eq laws entries holder thing bits absent none h k =
     by true is = is refl ∙ sym (none_is bits none)
     by false is = refl
 
+-- as many entries are on each thing where nothing was held and nothing is set
+pub same_uses : {K : Type 0} (eq : K → K → Bool) (entries : List (Entry K)) (thing : K) (before put : Bits) → record_count before ≡ record_count put →
+    CountsUses eq entries entries thing before put
+same_uses eq entries thing before put same k = ap (λ (x : ℕ). uses_in eq entries k + (if eq k thing then x else 0)) same
+
 -- a thing that is equal to a new one holds nothing
 pub equal_is_new : {K : Type 0} (eq : K → K → Bool) → IsEquivalence eq → (names : List (Option K)) (rs : List Record) (thing : K) → IsNew eq names thing →
     (h : ℕ) (k : K) → eq k thing ≡ true → bits_at eq (entries_of names rs) h k ≡ no_bits
@@ -219,6 +254,14 @@ module _ {K : Type 0} (eq : K → K → Bool) (laws : IsEquivalence eq) (names a
     count_released = count_after eq laws names names after rs more us more_us holder number thing bits (held_named eq names rs us held) once is written
         (λ n used. refl) kept (held_named eq after more more_us released_held)
 
+    pub uses_released : CountsUses eq (entries_of names rs) (entries_of after more) thing (bits_at eq (entries_of names rs) holder thing) bits
+    uses_released = uses_after eq laws names names after rs more us more_us holder number thing bits (held_named eq names rs us held) once is written
+        (λ n used. refl) kept (held_named eq after more more_us released_held)
+
+    pub things_released : CountsThings eq (entries_of names rs) (entries_of after more) thing
+    things_released = things_after eq laws names names after rs more us more_us holder number thing bits (held_named eq names rs us held) once is written
+        (λ n used. refl) kept (held_named eq after more more_us released_held)
+
     pub room_released : (capacity : ℕ) → length rs ≤ capacity → length more ≤ capacity →
         (min record_limit capacity - length more) + length (entries_of after more) ≡ (min record_limit capacity - length rs) + length (entries_of names rs)
     room_released capacity fits fits_after =
@@ -252,6 +295,14 @@ module _ {K : Type 0} (eq : K → K → Bool) (laws : IsEquivalence eq) (names m
   pub count_put : length (entries_of middle more) + record_count (bits_at eq (entries_of names rs) holder thing)
       ≡ length (entries_of names rs) + record_count bits
   count_put = count_after eq laws names middle middle rs more middle_us more_us holder number thing bits (held_named eq names rs us held) once is written
+      same (λ n used. refl) (held_named eq middle more more_us put_held)
+
+  pub uses_put : CountsUses eq (entries_of names rs) (entries_of middle more) thing (bits_at eq (entries_of names rs) holder thing) bits
+  uses_put = uses_after eq laws names middle middle rs more middle_us more_us holder number thing bits (held_named eq names rs us held) once is written
+      same (λ n used. refl) (held_named eq middle more more_us put_held)
+
+  pub things_put : CountsThings eq (entries_of names rs) (entries_of middle more) thing
+  things_put = things_after eq laws names middle middle rs more middle_us more_us holder number thing bits (held_named eq names rs us held) once is written
       same (λ n used. refl) (held_named eq middle more more_us put_held)
 
   pub room_put : (capacity : ℕ) → length rs ≤ capacity → length more ≤ capacity →

@@ -82,6 +82,10 @@ module _ {K : Type 0} where
       by (Some k) some rest zero below = record { name = some; holder = refl; bits = refl }
       by (Some k) some rest (suc i) below = rest i (omega arith)
 
+  pub is_some_from_name : (eq : K → K → Bool) (thing : K) (o : Option K) → is_name eq thing o ≡ true → is_some o ≡ true
+  is_some_from_name eq thing None is = absurd (true≢false (sym is))
+  is_some_from_name eq thing (Some k) is = refl
+
   -- a name stands at some number, or is new
   pub find_name : (eq : K → K → Bool) (names : List (Option K)) (k : K) →
       ((n : ℕ) × (is_name eq k (name_at names n) ≡ true)) ⊎ IsNew eq names k
@@ -239,4 +243,31 @@ module _ {K : Type 0} (eq : K → K → Bool) (laws : IsEquivalence eq) (names :
             ∙ sym (ap (λ (b : Bool). if b then bits else bits_at eq (entries_of names rs) h k)
             (and_right (h == holder) (eq k thing) (new_thing number thing k is new))
             ∙ bits_new eq names rs h k new)
+      ]
+
+  -- and so many entries come or go on the things
+  pub uses_changed : (rs after : List Record) (number : ℕ) (thing : K) (before put : ℕ) → is_name eq thing (name_at names number) ≡ true →
+      ((n : ℕ) → number_uses after n + (if n == number then before else 0) ≡ number_uses rs n + (if n == number then put else 0)) → (k : K) →
+      uses_in eq (entries_of names after) k + (if eq k thing then before else 0) ≡ uses_in eq (entries_of names rs) k + (if eq k thing then put else 0)
+  uses_changed rs after number thing before put is counts k =
+      elim (find_name eq names k) [
+        | inl there ↦
+            let same = same_thing number there.0 thing k is there.1 in
+            omega (
+              arith,
+              uses_known after there.0 k there.1,
+              uses_known rs there.0 k there.1,
+              counts there.0,
+              ap {B = ℕ} (λ (b : Bool). if b then before else 0) same,
+              ap {B = ℕ} (λ (b : Bool). if b then put else 0) same,
+            )
+        | inr new ↦
+            let apart = new_thing number thing k is new in
+            omega (
+              arith,
+              uses_new eq names after k new,
+              uses_new eq names rs k new,
+              ap {B = ℕ} (λ (b : Bool). if b then before else 0) apart,
+              ap {B = ℕ} (λ (b : Bool). if b then put else 0) apart,
+            )
       ]

@@ -1,7 +1,8 @@
 pub mod Tables
 pub mod Writes
 pub mod Entries
-pub mod Changes
 pub mod Things
+pub mod Changes
+pub mod Places
 pub mod Sound
 pub mod Readings

@@ -1,11 +1,12 @@
 -- What entries say of a holder and a thing, for those who build on it.
-use Rattle.std.proofs.Common.{◌≡◌, ◌≢◌, ◌∙◌, refl, sym, ap, ℕ, zero, suc, Bool, true, false, ◌<◌, ◌==◌, ◌&&◌, List, [], ◌∷◌, length, get_or, if◌then◌else◌, inl, inr, arith}
+use Rattle.std.proofs.Common.{◌≡◌, ◌≢◌, ◌∙◌, refl, sym, ap, ℕ, zero, suc, Bool, true, false, cond, ◌<◌, ◌+◌, ◌==◌, ◌&&◌, ◌||◌, nat_lt, List, [], ◌∷◌, length, get_or, if◌then◌else◌, inl, inr, arith}
 use Rattle.std.specs.List.{All}
 use Rattle.std.specs.Cmp.{IsEquivalence}
-use Rattle.std.proofs.lemmas.Bool.{cases_Bool, eq-eqb, eqb-true, ne_eqb, and_from, and_left, and_parts, and_right, false_from_ne_true, true≢false}
+use Rattle.std.proofs.lemmas.Bool.{cases_Bool, eq-eqb, eqb-true, lt-ltb, ne_eqb, and_from, and_left, and_parts, and_right, false_from_ne_true, true≢false}
+use Rattle.std.proofs.lemmas.List.Sums.{sum_by-cons}
 use Rattle.held_bits.specs.declared.bits.Bits.{Bits}
 use Rattle.held_bits.specs.Bits.{no_bits, are_none}
-use Rattle.held_bits.specs.HeldBits.{Entry, IsSound, SetsBits, bits_at, is_entry}
+use Rattle.held_bits.specs.HeldBits.{Entry, IsSound, SetsBits, bits_at, has_thing, is_entry, is_on, uses_in}
 
 module _ {K : Type 0} (eq : K → K → Bool) where
   -- a pair without an entry holds nothing
@@ -36,6 +37,17 @@ module _ {K : Type 0} (eq : K → K → Bool) where
             let there = entry_of_bits es h thing (sym (ap are_none rest) ∙ some) in
             (suc there.0, omega (arith, there.1), there.2, (λ d. there.3 d ∙ sym rest))
       ]
+
+  -- some entry is on a thing where more than none are
+  pub has_thing_counted : (es : List (Entry K)) (thing : K) → has_thing eq es thing ≡ nat_lt 0 (uses_in eq es thing)
+  has_thing_counted [] thing = refl
+  has_thing_counted (e ∷ es) thing =
+      ap (λ (b : Bool). eq thing e.thing || b) (has_thing_counted es thing)
+      ∙ step (eq thing e.thing) (uses_in eq es thing) ∙ ap (nat_lt 0) (sym (sum_by-cons (λ x. cond (is_on eq thing x) 1 0) e es))
+    where
+      step : (b : Bool) (x : ℕ) → (b || nat_lt 0 x) ≡ nat_lt 0 (cond b 1 0 + x)
+      step true x = sym (lt-ltb 0 (1 + x) (omega arith))
+      step false x = ap (nat_lt 0) (omega arith)
 
   -- what is set for another holder or another thing changes nothing
   pub sets_not_holder : (old new : List (Entry K)) (holder : ℕ) (thing : K) (bits : Bits) → SetsBits eq old new holder thing bits →

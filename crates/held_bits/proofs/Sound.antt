@@ -1,16 +1,16 @@
 -- The entries are as sound as the records.
-use Rattle.std.proofs.Common.{◌≡◌, ◌∙◌, sym, ap, ℕ, Bool, ◌<◌, ◌≤◌, ◌+◌, ◌*◌, ◌^◌, ◌==◌, List, length, get_or, slice_get, Option, Some, is_some, nat_lt, arith}
+use Rattle.std.proofs.Common.{◌≡◌, ◌∙◌, sym, ap, ℕ, Bool, ◌<◌, ◌≤◌, ◌+◌, ◌*◌, ◌^◌, ◌==◌, List, length, get_or, slice_get, Option, Some, count_by, is_some, nat_lt, arith}
 use Rattle.std.specs.Cmp.{IsEquivalence}
 use Rattle.std.proofs.lemmas.Bool.{eqb-true, and_parts, false_from_ne_true}
 use Rattle.std.proofs.lemmas.Option.{slice_get-get_or, same_Some}
 use Rattle.numbered_names.specs.Numbered.{name_at, is_name, HasEachOnce, IsListOf}
 use Rattle.held_bits.specs.declared.record.Record.{Record}
 use Rattle.held_bits.specs.Bits.{are_none}
-use Rattle.held_bits.specs.HeldBits.{AreThings, Entry, IsFirstOf, IsSound, is_entry}
-use Rattle.held_bits.specs.Records.{IsHeld, entries_of, rank}
+use Rattle.held_bits.specs.HeldBits.{AreThings, Entry, IsFirstOf, IsSound, is_entry, thing_count}
+use Rattle.held_bits.specs.Records.{IsHeld, entries_of, number_uses, rank}
 use Rattle.held_bits.proofs.Tables.{no_record, nondecreasing}
 use Rattle.held_bits.proofs.Entries.{IsEntryOf, any_known, entry_at}
-use Rattle.held_bits.proofs.Things.{any_used}
+use Rattle.held_bits.proofs.Things.{any_used, name_within, names_pass, numbers_used, things_known}
 use Rattle.held_bits.proofs.Changes.{held_named, held_length}
 
 module _ {K : Type 0} (eq : K → K → Bool) (names : List (Option K)) (rs : List Record) (us : List ℕ) (held : IsHeld names rs us) where
@@ -98,3 +98,10 @@ module _ {K : Type 0} (eq : K → K → Bool) (names : List (Option K)) (rs : Li
           ∙ ap {B = Entry K} (λ b. record { holder = r.holder; thing = x.thing; bits = b }) (of.bits ∙ ap (λ (y : Record). y.bits) (is no_record))
           ∙ ap {B = Entry K} (λ t. record { holder = r.holder; thing = t; bits = r.bits })
           (same_Some x.thing thing (sym of.name ∙ ap (λ (y : Record). name_at names y.thing) (is no_record) ∙ name))
+
+  -- the things that have names are those that have entries
+  pub things_counted : IsEquivalence eq → HasEachOnce eq names → count_by is_some names ≡ thing_count eq entries
+  things_counted laws once =
+      names_pass names (λ n. nat_lt 0 (number_uses rs n)) (λ n. held.stands n ∙ ap (nat_lt 0) (held.uses_are n))
+      ∙ numbers_used (length names) rs (λ n used. name_within names n ((held_named eq names rs us held).named n used))
+      ∙ sym (things_known eq laws names once rs (held_named eq names rs us held))

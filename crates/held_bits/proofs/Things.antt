@@ -1,15 +1,14 @@
 -- How many things have entries.
-use Rattle.std.proofs.Common.{◌≡◌, ◌∙◌, refl, sym, ap, ℕ, zero, suc, Bool, true, false, ◌<◌, ◌+◌, ◌==◌, ◌||◌, ◌++◌, List, [], ◌∷◌, length, Option, None, Some, is_some, count_by, nat_lt, if◌then◌else◌, inl, inr, arith}
+use Rattle.std.proofs.Common.{◌≡◌, ◌≢◌, ◌∙◌, refl, sym, ap, ℕ, zero, suc, Bool, true, false, ◌<◌, ◌+◌, ◌==◌, ◌||◌, ◌++◌, List, [], ◌∷◌, length, Option, None, Some, is_some, count_by, nat_lt, if◌then◌else◌, inl, inr, arith}
 use Rattle.std.specs.List.{list_any}
 use Rattle.std.specs.Cmp.{IsEquivalence}
 use Rattle.std.proofs.lemmas.Bool.{cases_eq, eq-eqb, ne_eqb, lt-ltb, true≢false}
 use Rattle.std.proofs.lemmas.List.Sums.{sum_by-cons}
 use Rattle.numbered_names.specs.Numbered.{name_at, is_name, HasEachOnce}
 use Rattle.held_bits.specs.declared.record.Record.{Record}
-use Rattle.held_bits.specs.HeldBits.{thing_count}
-use Rattle.held_bits.specs.Records.{IsHeld, entries_of, entry_of, has_number, number_uses}
-use Rattle.held_bits.proofs.Entries.{IsNamed, any_known, named_tail, one_if, uses_cons, uses_head}
-use Rattle.held_bits.proofs.Changes.{held_named}
+use Rattle.held_bits.specs.HeldBits.{CountsThings, has_thing, thing_count}
+use Rattle.held_bits.specs.Records.{entries_of, entry_of, has_number, number_uses}
+use Rattle.held_bits.proofs.Entries.{IsNamed, any_known, is_some_from_name, named_tail, one_if, uses_cons, uses_head}
 
 -- how many numbers the records name
 abbrev distinct_numbers : List Record → ℕ
@@ -56,6 +55,18 @@ one_passes (suc n) (suc t) f within =
     ∙ one_passes n t (λ m. f (suc m)) (omega arith))
     ∙ omega arith
 
+-- tests that agree but at one number pass as many others
+one_changes : (n t : ℕ) (f g : ℕ → Bool) → t < n → ((m : ℕ) → m ≢ t → f m ≡ g m) → count_numbers n f + one_if (g t) ≡ count_numbers n g + one_if (f t)
+one_changes zero t f g within same = absurd (omega arith)
+one_changes (suc n) zero f g within same =
+    omega (arith, same_tests n (λ m. f (suc m)) (λ m. g (suc m)) (λ m. same (suc m) (λ e. omega arith)))
+one_changes (suc n) (suc t) f g within same =
+    omega (
+      arith,
+      ap one_if (same 0 (λ e. omega arith)),
+      one_changes n t (λ m. f (suc m)) (λ m. g (suc m)) (omega arith) (λ m apart. same (suc m) (λ e. apart (omega arith))),
+    )
+
 -- some record has a number where its count is above 0
 pub any_used : (n : ℕ) (rs : List Record) → list_any (has_number n) rs ≡ nat_lt 0 (number_uses rs n)
 any_used n [] = refl
@@ -68,7 +79,7 @@ any_used n (r ∷ rs) =
     step false x = ap (nat_lt 0) (omega arith)
 
 -- of the numbers below a bound, so many have records
-numbers_used : (size : ℕ) (rs : List Record) → ((n : ℕ) → 0 < number_uses rs n → n < size) →
+pub numbers_used : (size : ℕ) (rs : List Record) → ((n : ℕ) → 0 < number_uses rs n → n < size) →
     count_numbers size (λ n. nat_lt 0 (number_uses rs n)) ≡ distinct_numbers rs
 numbers_used size [] within = same_tests size (λ n. nat_lt 0 (number_uses [] n)) (λ n. false) (λ n. refl) ∙ none_pass size
 numbers_used size (r ∷ rs) within =
@@ -80,20 +91,20 @@ numbers_used size (r ∷ rs) within =
     (numbers_used size rs (λ n used. within n (omega (arith, used, uses_cons n r rs))))
 
 module _ {K : Type 0} where
-  names_pass : (names : List (Option K)) (f : ℕ → Bool) → ((n : ℕ) → is_some (name_at names n) ≡ f n) → count_by is_some names ≡ count_numbers (length names) f
+  pub names_pass : (names : List (Option K)) (f : ℕ → Bool) → ((n : ℕ) → is_some (name_at names n) ≡ f n) → count_by is_some names ≡ count_numbers (length names) f
   names_pass [] f stands = refl
   names_pass (o ∷ os) f stands =
       sum_by-cons (λ x. one_if (is_some x)) o os
       ∙ ap (λ (b : Bool). one_if b + count_by is_some os) (stands 0)
       ∙ ap (λ x. one_if (f 0) + x) (names_pass os (λ n. f (suc n)) (λ n. stands (suc n)))
 
-  name_within : (names : List (Option K)) (n : ℕ) → is_some (name_at names n) ≡ true → n < length names
+  pub name_within : (names : List (Option K)) (n : ℕ) → is_some (name_at names n) ≡ true → n < length names
   name_within [] n is = absurd (true≢false (sym is))
   name_within (o ∷ os) zero is = omega arith
   name_within (o ∷ os) (suc n) is = omega (arith, name_within os n is)
 
   -- each thing counts at its last entry, as its number does at its last record
-  things_known : (eq : K → K → Bool) → IsEquivalence eq → (names : List (Option K)) → HasEachOnce eq names → (rs : List Record) → IsNamed names rs →
+  pub things_known : (eq : K → K → Bool) → IsEquivalence eq → (names : List (Option K)) → HasEachOnce eq names → (rs : List Record) → IsNamed names rs →
       thing_count eq (entries_of names rs) ≡ distinct_numbers rs
   things_known eq laws names once [] all = refl
   things_known eq laws names once (r ∷ rs) all = by (name_at names r.thing) refl (things_known eq laws names once rs (named_tail names r rs all))
@@ -106,10 +117,23 @@ module _ {K : Type 0} where
           (any_known eq laws names once rs r.thing k (ap (is_name eq k) some ∙ laws.refl k))
           ∙ ap (λ x. (if list_any (has_number r.thing) rs then 0 else 1) + x) rest
 
-  -- the things that have names are those that have entries
-  pub things_counted : (eq : K → K → Bool) → IsEquivalence eq → (names : List (Option K)) (rs : List Record) (us : List ℕ) → IsHeld names rs us → HasEachOnce eq names →
-      count_by is_some names ≡ thing_count eq (entries_of names rs)
-  things_counted eq laws names rs us held once =
-      names_pass names (λ n. nat_lt 0 (number_uses rs n)) (λ n. held.stands n ∙ ap (nat_lt 0) (held.uses_are n))
-      ∙ numbers_used (length names) rs (λ n used. name_within names n ((held_named eq names rs us held).named n used))
-      ∙ sym (things_known eq laws names once rs (held_named eq names rs us held))
+  -- of the things that have entries, that of one number alone comes or goes
+  pub things_changed : (eq : K → K → Bool) → IsEquivalence eq → (names : List (Option K)) → HasEachOnce eq names → (rs more : List Record) → IsNamed names rs → IsNamed names more →
+      (number : ℕ) (thing : K) → is_name eq thing (name_at names number) ≡ true → ((n : ℕ) → n ≢ number → number_uses more n ≡ number_uses rs n) →
+      CountsThings eq (entries_of names rs) (entries_of names more) thing
+  things_changed eq laws names once rs more all all_more number thing is same =
+      omega (
+        arith,
+        counted rs all,
+        counted more all_more,
+        here rs,
+        here more,
+        one_changes (length names) number (λ n. nat_lt 0 (number_uses more n)) (λ n. nat_lt 0 (number_uses rs n))
+            (name_within names number (is_some_from_name eq thing (name_at names number) is)) (λ n apart. ap (nat_lt 0) (same n apart)),
+      )
+    where
+      counted : (xs : List Record) → IsNamed names xs → thing_count eq (entries_of names xs) ≡ count_numbers (length names) (λ n. nat_lt 0 (number_uses xs n))
+      counted xs named = things_known eq laws names once xs named ∙ sym (numbers_used (length names) xs (λ n used. name_within names n (named.named n used)))
+
+      here : (xs : List Record) → (if has_thing eq (entries_of names xs) thing then 1 else 0) ≡ one_if (nat_lt 0 (number_uses xs number))
+      here xs = ap one_if (any_known eq laws names once xs number thing is ∙ any_used number xs)

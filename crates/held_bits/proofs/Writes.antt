@@ -25,7 +25,7 @@ none_is b is =
 none_counted : (b : Bits) → are_none b ≡ true → record_count b ≡ 0
 none_counted b is = ap (λ (t : Bool). if t then 0 else 1) is
 
-some_counted : (b : Bits) → are_none b ≡ false → record_count b ≡ 1
+pub some_counted : (b : Bits) → are_none b ≡ false → record_count b ≡ 1
 some_counted b is = ap (λ (t : Bool). if t then 0 else 1) is
 
 abbrev one_if : Bool → ℕ

@@ -1,10 +1,10 @@
 -- What is seen of held bits: what each holder holds on each thing, and the spare room.
-use Rattle.std.specs.Prelude.{◌≡◌, refl, ℕ, Bool, true, false, ◌<◌, ◌≤◌, ◌+◌, ◌^◌, ◌==◌, ◌&&◌, List, [], ◌∷◌, All, count_by, length, if◌then◌else◌}
+use Rattle.std.specs.Prelude.{◌≡◌, refl, ℕ, Bool, true, false, ◌<◌, ◌≤◌, ◌+◌, ◌^◌, ◌==◌, ◌&&◌, List, [], ◌∷◌, Some, All, count_by, length, slice_get, if◌then◌else◌}
 use Rattle.std.specs.List.{list_any, AllPairs, AllWithin, Contains, IsDistinct}
 use Rattle.std.specs.List.Sorted.{IsNonDecreasingBy}
 use Rattle.std.specs.Coded.{Coded, code_by, coded×, coded_ℕ, coded_list}
 use Rattle.held_bits.specs.declared.bits.Bits.{Bits}
-use Rattle.held_bits.specs.Bits.{no_bits, are_none, AreWithin}
+use Rattle.held_bits.specs.Bits.{no_bits, are_none, record_count, AreWithin}
 
 -- what a holder holds on a thing
 pub record Entry (K : Type 0) : Type 0 where
@@ -58,10 +58,24 @@ is_on eq thing entry = eq thing entry.thing
 abbrev pub uses_in : {K : Type 0} → (K → K → Bool) → List (Entry K) → K → ℕ
 uses_in eq entries thing = count_by (is_on eq thing) entries
 
+-- whether some entry is on a thing
+abbrev pub has_thing : {K : Type 0} → (K → K → Bool) → List (Entry K) → K → Bool
+has_thing eq entries thing = list_any (is_on eq thing) entries
+
+-- of the entries on each thing, those of one pair alone come or go
+abbrev pub CountsUses : {K : Type 0} → (K → K → Bool) → List (Entry K) → List (Entry K) → K → Bits → Bits → Type 0
+CountsUses {K} eq old new thing before bits =
+    (k : K) → uses_in eq new k + (if eq k thing then record_count before else 0) ≡ uses_in eq old k + (if eq k thing then record_count bits else 0)
+
 -- how many things have entries: each counts at its last entry
 abbrev pub thing_count : {K : Type 0} → (K → K → Bool) → List (Entry K) → ℕ
 thing_count eq [] = 0
-thing_count eq (entry ∷ entries) = (if list_any (is_on eq entry.thing) entries then 0 else 1) + thing_count eq entries
+thing_count eq (entry ∷ entries) = (if has_thing eq entries entry.thing then 0 else 1) + thing_count eq entries
+
+-- of the things that have entries, one alone comes or goes
+abbrev pub CountsThings : {K : Type 0} → (K → K → Bool) → List (Entry K) → List (Entry K) → K → Type 0
+CountsThings eq old new thing =
+    thing_count eq new + (if has_thing eq old thing then 1 else 0) ≡ thing_count eq old + (if has_thing eq new thing then 1 else 0)
 
 -- an entry whose numbers fit in 32 bits
 abbrev pub IsNumbered : {K : Type 0} → Entry K → Type 0
@@ -74,6 +88,12 @@ pub record IsSound {K : Type 0} (eq : K → K → Bool) (entries : List (Entry K
   pub ordered : IsNonDecreasingBy (λ entry. entry.holder) entries
   pub within : All IsNumbered entries
 
+-- the entry at a place has these bits now, or is gone where they are none, and all else stays
+pub record ReplacesAt {K : Type 0} (eq : K → K → Bool) (old new : List (Entry K)) (place : ℕ) (bits : Bits) : Type 0 where
+  pub sets : (entry : Entry K) → slice_get old place ≡ Some entry → SetsBits eq old new entry.holder entry.thing bits
+  pub uses : (entry : Entry K) → slice_get old place ≡ Some entry → CountsUses eq old new entry.thing entry.bits bits
+  pub things : (entry : Entry K) → slice_get old place ≡ Some entry → CountsThings eq old new entry.thing
+
 -- the entries of the holders before one stand before a place, and those of the holder and of later ones from it on
 pub record IsFirstOf {K : Type 0} (entries : List (Entry K)) (holder place : ℕ) : Type 0 where
   pub inside : place ≤ length entries
@@ -83,5 +103,5 @@ pub record IsFirstOf {K : Type 0} (entries : List (Entry K)) (holder place : ℕ
 -- the things that have entries, each once
 pub record AreThings {K : Type 0} (eq : K → K → Bool) (entries : List (Entry K)) (things : List K) : Type 0 where
   pub once : IsDistinct eq things
-  pub used : All (λ thing. list_any (is_on eq thing) entries ≡ true) things
+  pub used : All (λ thing. has_thing eq entries thing ≡ true) things
   pub all : All (λ entry. Contains things entry.thing) entries

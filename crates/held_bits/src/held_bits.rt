@@ -1,7 +1,6 @@
 ghost use Rattle.std.specs.Prelude.{◌≡◌, ◌+◌, ◌<◌, ◌≤◌, ◌↔◌, ℕ, false, true, [], None, Some, length, slice_get, IfNone, IfOk, IfSome, IsTrue, OnOk};
-ghost use Rattle.std.specs.List.{list_any};
 ghost use Rattle.held_bits.specs.Bits.{are_none, no_bits, record_count, AreWithin};
-ghost use Rattle.held_bits.specs.HeldBits.{bits_at, is_on, thing_count, uses_in, AreThings, IsFirstOf, IsSound, SetsBits};
+ghost use Rattle.held_bits.specs.HeldBits.{bits_at, has_thing, thing_count, uses_in, AreThings, CountsThings, CountsUses, IsFirstOf, IsSound, ReplacesAt, SetsBits};
 
 use crate::Bits;
 use crate::numbers::{number_for, release};
@@ -156,10 +155,13 @@ impl<K: Eq + Hash + Drop> HeldBits<K> {
         ensures bits { SetsBits K.eq self.old.entries self.new.entries holder thing bits }
         ensures count { length self.new.entries + record_count (bits_at K.eq self.old.entries holder thing) ≡
             length self.old.entries + record_count bits }
+        ensures uses { CountsUses K.eq self.old.entries self.new.entries thing
+            (bits_at K.eq self.old.entries holder thing) bits }
+        ensures things { CountsThings K.eq self.old.entries self.new.entries thing }
         ensures record_room { self.new.record_room + length self.new.entries ≡
             self.old.record_room + length self.old.entries }
         ensures thing_room { self.old.thing_room ≤ self.new.thing_room + 1 }
-        ensures known_thing { list_any (is_on K.eq thing) self.old.entries ≡ true → self.old.thing_room ≤ self.new.thing_room }
+        ensures known_thing { has_thing K.eq self.old.entries thing ≡ true → self.old.thing_room ≤ self.new.thing_room }
     {
         if bits.are_none() {
             self.clear(holder, &thing);
@@ -176,6 +178,9 @@ impl<K: Eq + Hash + Drop> HeldBits<K> {
         ensures bits { SetsBits K.eq self.old.entries self.new.entries holder thing.now bits }
         ensures count { length self.new.entries + record_count (bits_at K.eq self.old.entries holder thing.now) ≡
             length self.old.entries + record_count bits }
+        ensures uses { CountsUses K.eq self.old.entries self.new.entries thing.now
+            (bits_at K.eq self.old.entries holder thing.now) bits }
+        ensures things { CountsThings K.eq self.old.entries self.new.entries thing.now }
         ensures record_room { self.new.record_room + length self.new.entries ≡
             self.old.record_room + length self.old.entries }
         ensures thing_room { self.old.thing_room ≤ self.new.thing_room }
@@ -188,11 +193,36 @@ impl<K: Eq + Hash + Drop> HeldBits<K> {
         ensures bits { SetsBits K.eq self.old.entries self.new.entries holder thing.now no_bits }
         ensures count { length self.new.entries + record_count (bits_at K.eq self.old.entries holder thing.now) ≡
             length self.old.entries }
+        ensures uses { CountsUses K.eq self.old.entries self.new.entries thing.now
+            (bits_at K.eq self.old.entries holder thing.now) no_bits }
+        ensures things { CountsThings K.eq self.old.entries self.new.entries thing.now }
         ensures record_room { self.new.record_room + length self.new.entries ≡
             self.old.record_room + length self.old.entries }
         ensures thing_room { self.old.thing_room ≤ self.new.thing_room }
     {
         self.change(holder, thing, Bits::none());
+    }
+
+    /// Sets the bits of the entry at a place. Where they are none the entry goes, and those behind it move up. It takes no
+    /// room.
+    pub fn replace_at(&mut self, place: usize, bits: Bits)
+        requires { place < length self.old.entries }
+        ensures entry { ReplacesAt K.eq self.old.entries self.new.entries place bits }
+        ensures count { length self.new.entries + 1 ≡ length self.old.entries + record_count bits }
+        ensures record_room { self.new.record_room + length self.new.entries ≡
+            self.old.record_room + length self.old.entries }
+        ensures thing_room { self.old.thing_room ≤ self.new.thing_room }
+    {
+        self.things.has_each_name_once();
+        let record = self.records[place];
+        write(
+            &mut self.records,
+            &mut self.uses,
+            record.holder,
+            record.thing,
+            bits,
+        );
+        release(&mut self.things, &self.uses, record.thing);
     }
 
     // Sets what the holder holds on the thing, where that takes no room.
@@ -201,6 +231,9 @@ impl<K: Eq + Hash + Drop> HeldBits<K> {
         ensures bits { SetsBits K.eq self.old.entries self.new.entries holder thing.now bits }
         ensures count { length self.new.entries + record_count (bits_at K.eq self.old.entries holder thing.now) ≡
             length self.old.entries + record_count bits }
+        ensures uses { CountsUses K.eq self.old.entries self.new.entries thing.now
+            (bits_at K.eq self.old.entries holder thing.now) bits }
+        ensures things { CountsThings K.eq self.old.entries self.new.entries thing.now }
         ensures record_room { self.new.record_room + length self.new.entries ≡
             self.old.record_room + length self.old.entries }
         ensures thing_room { self.old.thing_room ≤ self.new.thing_room }

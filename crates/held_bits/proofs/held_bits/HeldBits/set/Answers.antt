@@ -3,7 +3,7 @@ use Rattle.std.specs.List.{list_any}
 use Rattle.held_bits.specs.HeldBits.{is_on}
 use Rattle.held_bits.proofs.Entries.{number_of_known}
 use Rattle.std.specs.Vec.{vec_capacity}
-use Rattle.held_bits.proofs.Changes.{put_held, sets_put, count_put, room_put}
+use Rattle.held_bits.proofs.Changes.{put_held, sets_put, count_put, uses_put, things_put, room_put}
 use Rattle.held_bits.proofs.held_bits.HeldBits.set.Goals as goal
 
 pub invariant_of-self : goal.invariant_of-self
@@ -29,6 +29,24 @@ returns-else-are_none-clause-count g c =
     let p = c.number_for-number in
     rw (← c.self.view_is)
     (count_put g.K.PartialEq.eq g.met.K.Eq.laws s.things.names p.new.things.names s.records.items c.write.new.records.items s.uses.items p.new.uses.items c.write.new.uses.items
+    c.self.invariant c.has_each_name_once.ensures c.args.holder p.result c.args.thing c.args.bits p.ensures.is (sym c.if-are_none.ensures.is)
+    (omega (arith, c.requires.record_room, ap (λ v. v.record_room) c.self.view_is)) p.ensures.numbers p.ensures.uses p.ensures.stood p.ensures.others c.write.ensures.written)
+
+pub returns-else-are_none-clause-uses : goal.returns-else-are_none-clause-uses
+returns-else-are_none-clause-uses g c =
+    let s = c.self.inside in
+    let p = c.number_for-number in
+    rw (← c.self.view_is)
+    (uses_put g.K.PartialEq.eq g.met.K.Eq.laws s.things.names p.new.things.names s.records.items c.write.new.records.items s.uses.items p.new.uses.items c.write.new.uses.items
+    c.self.invariant c.has_each_name_once.ensures c.args.holder p.result c.args.thing c.args.bits p.ensures.is (sym c.if-are_none.ensures.is)
+    (omega (arith, c.requires.record_room, ap (λ v. v.record_room) c.self.view_is)) p.ensures.numbers p.ensures.uses p.ensures.stood p.ensures.others c.write.ensures.written)
+
+pub returns-else-are_none-clause-things : goal.returns-else-are_none-clause-things
+returns-else-are_none-clause-things g c =
+    let s = c.self.inside in
+    let p = c.number_for-number in
+    rw (← c.self.view_is)
+    (things_put g.K.PartialEq.eq g.met.K.Eq.laws s.things.names p.new.things.names s.records.items c.write.new.records.items s.uses.items p.new.uses.items c.write.new.uses.items
     c.self.invariant c.has_each_name_once.ensures c.args.holder p.result c.args.thing c.args.bits p.ensures.is (sym c.if-are_none.ensures.is)
     (omega (arith, c.requires.record_room, ap (λ v. v.record_room) c.self.view_is)) p.ensures.numbers p.ensures.uses p.ensures.stood p.ensures.others c.write.ensures.written)
 
