@@ -1,13 +1,13 @@
 -- Links in order.
 use Rattle.std.proofs.Common.{◌≡◌, ◌≢◌, ◌∙◌, refl, sym, ap, ℕ, Bool, false, ◌<◌, ◌≤◌, ◌+◌, ◌-◌, ◌*◌, ◌==◌, ◌||◌, List, [], ◌∷◌, length, get_or, take, drop, inl, inr, arith}
 use Rattle.std.specs.List.{list_any, All}
-use Rattle.std.proofs.lemmas.Bool.{cases_lt, eq-eqb, ne_eqb, and_left}
+use Rattle.std.proofs.lemmas.Bool.{cases_lt, eq-eqb, ne_eqb, and_left, or_parts}
 use Rattle.std.proofs.Math.Bool.{or-false}
 use Rattle.std.proofs.lemmas.List.{get_or-take, get_or-drop, length-take, length-drop, take-append-drop}
 use Rattle.std.proofs.lemmas.List.Elements.{All-head, All-tail}
 use Rattle.std.proofs.lemmas.List.Folds.{list_any-append, list_any_none, drop_split}
 use Rattle.role_graph.specs.declared.link.Link.{Link}
-use Rattle.role_graph.specs.Edges.{rank, is_link, leads_to, linked, IsWithin}
+use Rattle.role_graph.specs.Edges.{rank, is_admin_link, is_link, leads_to, leads_with_admin, linked, IsWithin}
 
 abbrev pub no_link : Link
 no_link = record { from = 0; to = 0; admin = false }
@@ -52,6 +52,9 @@ other_from from to link differs = and_left (link.from == from) (link.to == to) (
 same_from : (from to : ℕ) (link : Link) → link.from ≡ from → leads_to to link ≡ is_link from to link
 same_from from to link same = rw (eq-eqb link.from from same) refl
 
+same_option : (from to : ℕ) (link : Link) → link.from ≡ from → leads_with_admin to link ≡ is_admin_link from to link
+same_option from to link same = rw (eq-eqb link.from from same) refl
+
 module _ (links : List Link) (from start end : ℕ) (within : All IsWithin links)
     (before_start : (k : ℕ) (d : Link) → k < start → rank (get_or links k d) < from * 4096)
     (after_start : (k : ℕ) (d : Link) → start ≤ k → k < length links → from * 4096 ≤ rank (get_or links k d))
@@ -85,3 +88,27 @@ module _ (links : List Link) (from start end : ℕ) (within : All IsWithin links
       ∙ list_any-append (is_link from to) (take (end - start) (drop start links)) (drop end links)
       ∙ ap (λ b. list_any (is_link from to) (take (end - start) (drop start links)) || b) none_after
       ∙ or-false (list_any (is_link from to) (take (end - start) (drop start links))))
+
+  none_with_admin : (xs : List Link) → list_any (is_link from to) xs ≡ false → list_any (is_admin_link from to) xs ≡ false
+  none_with_admin [] none = refl
+  none_with_admin (x ∷ xs) none =
+      let parts = or_parts (is_link from to x) (list_any (is_link from to) xs) none in
+      rw (parts.0, none_with_admin xs parts.1) refl
+
+  same_option_between : list_any (leads_with_admin to) (take (end - start) (drop start links)) ≡ list_any (is_admin_link from to) (take (end - start) (drop start links))
+  same_option_between = any_same (leads_with_admin to) (is_admin_link from to) (take (end - start) (drop start links))
+      (all_between (λ x. leads_with_admin to x ≡ is_admin_link from to x) links start end
+      (λ k d a b inside. same_option from to (get_or links k d)
+      (omega (arith, after_start k d a inside, before_end k d b, (within k d inside).1))))
+
+  -- and so are those with the admin option
+  pub part_has_options : list_any (leads_with_admin to) (take (end - start) (drop start links)) ≡ list_any (is_admin_link from to) links
+  part_has_options =
+      same_option_between
+      ∙ sym (ap (list_any (is_admin_link from to)) (sym (take-append-drop start links))
+      ∙ list_any-append (is_admin_link from to) (take start links) (drop start links)
+      ∙ ap (λ b. b || list_any (is_admin_link from to) (drop start links)) (none_with_admin (take start links) none_before)
+      ∙ ap (list_any (is_admin_link from to)) (drop_split links start end in_order)
+      ∙ list_any-append (is_admin_link from to) (take (end - start) (drop start links)) (drop end links)
+      ∙ ap (λ b. list_any (is_admin_link from to) (take (end - start) (drop start links)) || b) (none_with_admin (drop end links) none_after)
+      ∙ or-false (list_any (is_admin_link from to) (take (end - start) (drop start links))))

@@ -26,6 +26,10 @@ touches node link = (link.from == node) || (link.to == node)
 abbrev pub leads_to : ℕ → Link → Bool
 leads_to to link = link.to == to
 
+-- whether it does so with the admin option
+abbrev pub leads_with_admin : ℕ → Link → Bool
+leads_with_admin to link = leads_to to link && link.admin
+
 -- whether some link leads from one node to another
 abbrev pub linked : List Link → ℕ → ℕ → Bool
 linked links from to = list_any (is_link from to) links

@@ -2,7 +2,7 @@
 ghost use Rattle.std.specs.Prelude.{◌≡◌, ◌<◌, ◌≤◌, ◌↔◌, ◌+◌, ◌*◌, ◌==◌, ◌&&◌, ◌||◌, ℕ, Bool, not, All, IsTrue, length, slice_range};
 ghost use Rattle.std.specs.List.{list_any, slice_index_or};
 ghost use Rattle.role_graph.specs.declared.link.Link.{Link};
-ghost use Rattle.role_graph.specs.Edges.{IsTable, IsWithin, leads_to, linked, rank};
+ghost use Rattle.role_graph.specs.Edges.{IsTable, IsWithin, is_admin_link, leads_to, leads_with_admin, linked, rank};
 ghost use Rattle.role_graph.specs.Nodes.{holds};
 ghost use Rattle.role_graph.specs.Paths.{Reaches};
 
@@ -57,6 +57,7 @@ pub fn links_of(links: &[Link], node: u32) -> &[Link]
     requires below { node < 4096 }
     ensures within { All IsWithin result.now }
     ensures same { (to : ℕ) → list_any (leads_to to) result.now ≡ linked links.now node to }
+    ensures admin { (to : ℕ) → list_any (leads_with_admin to) result.now ≡ list_any (is_admin_link node to) links.now }
 {
     let first = node as u64 * 4096;
     let start = rank_start(links, first);

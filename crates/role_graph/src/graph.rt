@@ -1,11 +1,12 @@
 //! Roles that are granted to nodes.
 ghost use Rattle.std.specs.Prelude.{◌≡◌, ◌<◌, ◌≤◌, ◌+◌, ◌==◌, ◌&&◌, ◌||◌, ◌↔◌, ℕ, [], not, length, count_by, slice_index, take, All, IsTrue, IfOk, IfSome, OnOk, is_some, if◌then◌else◌};
+ghost use Rattle.std.specs.List.{list_any};
 ghost use Rattle.role_graph.specs.Nodes.{holds};
 ghost use Rattle.role_graph.specs.Paths.{IsFreeOfLoops, Reaches};
-ghost use Rattle.role_graph.specs.Edges.{IsWithin, granted, is_link, with_admin};
+ghost use Rattle.role_graph.specs.Edges.{IsWithin, granted, is_link, leads_to, leads_with_admin, with_admin};
 
 use crate::NodeSet;
-use crate::closure::closure;
+use crate::closure::{closure, links_of};
 use crate::link::Link;
 use crate::order::order;
 use crate::table::{place_of, put, remove_link, remove_node};
@@ -146,6 +147,25 @@ impl Graph {
             Ok(place) => Some(self.roles[place].admin),
             Err(_) => None,
         }
+    }
+
+    /// The roles that are granted to the node, each as a link from the node to the role.
+    pub fn roles_of(&self, node: u32) -> &[Link]
+        requires { node < 4096 }
+        ensures within { All IsWithin result.now }
+        ensures granted { (role : ℕ) → list_any (leads_to role) result.now ≡ granted self.now role node }
+        ensures admin { (role : ℕ) → list_any (leads_with_admin role) result.now ≡ with_admin self.now role node }
+    {
+        links_of(&self.roles, node)
+    }
+
+    /// The nodes to which the node is granted, each as a link from the node to its holder. Their admin options are left open.
+    pub fn holders_of(&self, node: u32) -> &[Link]
+        requires { node < 4096 }
+        ensures within { All IsWithin result.now }
+        ensures granted { (holder : ℕ) → list_any (leads_to holder) result.now ≡ granted self.now node holder }
+    {
+        links_of(&self.holders, node)
     }
 
     /// Takes a role from a node, and answers whether the edge stood.

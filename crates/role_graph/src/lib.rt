@@ -11,4 +11,5 @@ mod order;
 mod table;
 
 pub use graph::{Added, Graph};
+pub use link::Link;
 pub use node_set::{NODES, NodeSet};

@@ -1,0 +1,4 @@
+pub mod BitSets
+pub mod Changes
+pub mod Roles
+pub mod SameHoldings

@@ -1,0 +1,4 @@
+pub mod Bits
+pub mod Globals
+pub mod Holdings
+pub mod Rooms

@@ -1,0 +1,11 @@
+pub mod AccountChanges
+pub mod Counting
+pub mod Counts
+pub mod Entries
+pub mod Limits
+pub mod SomeBits
+pub mod Matching
+pub mod Numbers
+pub mod RowChanges
+pub mod Standing
+pub mod States
