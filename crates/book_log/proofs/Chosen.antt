@@ -20,7 +20,7 @@ use Rattle.acl_names.specs.AuthId.{same_auth}
 use Rattle.acl_names.specs.declared.auth.AuthId.{AuthId}
 use Rattle.book_log.proofs.Standing.{chosen_stands}
 use Rattle.book_log.specs.Items.{Knock}
-use Rattle.book_log.specs.Logins.{IsChosenAccount, auth_at}
+use Rattle.book_log.specs.Logins.{IsChosenAccount, IsChosenBy, auth_at}
 
 -- an account that a list has, with what holds of all that it has
 found : (account : AuthId) (accounts : List Listed) (P : Listed → Type 0) →
@@ -104,3 +104,8 @@ chosen_once state knock None None first second = refl
 chosen_once state knock None (Some other) first second = absurd (not_none state knock other first second)
 chosen_once state knock (Some one) None first second = absurd (not_none state knock one second first)
 chosen_once state knock (Some one) (Some other) first second = ap Some (same_account state knock one other first second)
+
+pub chosen_by_once : (choice : Option (State → Knock → Option AuthId)) (state : State) (knock : Knock) (one other : Option AuthId) →
+    IsChosenBy choice state knock one → IsChosenBy choice state knock other → one ≡ other
+chosen_by_once None state knock one other first second = chosen_once state knock one other first second
+chosen_by_once (Some choice) state knock one other first second = first.0 ∙ sym second.0

@@ -18,15 +18,16 @@ use Rattle.acl_stmt.specs.declared.refusal.Refusal.{Refusal}
 use Rattle.acl_stmt.specs.declared.statement.Statement.{Statement}
 use Rattle.book_log.proofs.Grows.{state_more}
 use Rattle.book_log.proofs.Kept.{keeps_policy, still_stands}
-use Rattle.book_log.proofs.Standing.{chosen_stands}
-use Rattle.book_log.specs.Histories.{entry_if, entry_of, limits_of, some_entry, stored}
+use Rattle.book_log.proofs.Standing.{chosen_by_stands}
+use Rattle.book_log.specs.Histories.{entry_if, entry_of, limits_by, some_entry, stored}
 use Rattle.book_log.specs.Items.{Call, Knock, Login, LoginRefusal, Reply}
 use Rattle.book_log.specs.Items.Call.{Asks, Knocks}
 use Rattle.book_log.specs.Items.Reply.{ToLogin, ToStatement}
-use Rattle.book_log.specs.Logins.{IsAnswerTo, IsChosenAccount, IsLoginReply, IsOpened, is_password, tried_at}
+use Rattle.book_log.specs.Logins.{IsAnswerTo, IsChosenBy, IsLoginReply, IsOpened, is_password, tried_at}
 use Rattle.book_log.specs.Logs.{IsEndReply, IsLegalPast, IsReply, IsReplyWhere, Origin, entries_at, is_ended, state_at}
 use Rattle.book_log.specs.Pasts.{Past, at_moment, clears, events_in, events_of, is_account, login_events, moment_after, moment_of}
-use Rattle.book_log.specs.Statements.{IsStatementReply, Rules}
+use Rattle.book_log.specs.Rules.{Rules}
+use Rattle.book_log.specs.Statements.{IsStatementReply}
 use Rattle.login_throttle.specs.History.{Event, Follows, IsHistory, blocking_failure}
 use Rattle.login_throttle.specs.History.Event.{Answered, Cleared}
 use Rattle.login_throttle.specs.Tracking.{answer_of}
@@ -127,14 +128,14 @@ accepted_counts rules entries state account events moment acting caller number l
 
 statement_step : (rules : Rules) (entries : List Entry) (state : State) (account : AuthId) (chosen : Option AuthId) (events : List Event) (moment : ℤ) (acting : Acting)
     (caller number : ℕ) (statement : Statement) (answer : Result ℕ Refusal) →
-    IsStatementReply rules entries state acting (entry_of caller number acting statement) answer →
+    IsStatementReply rules entries state acting (entry_of rules caller number acting statement) answer →
     IsTallied state account events moment →
-    IsTallied (state_after (stored caller number (Asks acting statement) (ToStatement answer)) state) account
+    IsTallied (state_after (stored rules caller number (Asks acting statement) (ToStatement answer)) state) account
     (events_in account chosen moment (Asks acting statement) (ToStatement answer) ++ events) moment
 unfolding state_after
 statement_step rules entries state account chosen events moment acting caller number statement (Ok position) reply tallied =
-    accepted_counts rules entries state account events moment acting caller number (limits_of acting statement) statement position
-    (is_entry (limits_of acting statement) statement) refl reply tallied
+    accepted_counts rules entries state account events moment acting caller number (limits_by rules.hands_on acting statement) statement position
+    (is_entry (limits_by rules.hands_on acting statement) statement) refl reply tallied
 statement_step rules entries state account chosen events moment acting caller number statement (Err why) reply tallied = tallied
 
 -- a login at the account itself
@@ -160,51 +161,51 @@ own_login state position account events moment at given account_data tried.Open 
         subst (λ (reply : Result Login LoginRefusal). IsTallied state account (login_events at reply ++ events) at) (sym opened.1)
         (cleared state account events at)
 
-login_step : (state : State) (position : ℕ) (account : AuthId) (chosen : Option AuthId) (events : AuthId → List Event) (moment at : ℤ) (knock : Knock)
-    (answer : Result Login LoginRefusal) → moment ≤ℤ at → IsChosenAccount state knock chosen → IsLoginReply state position events at knock chosen answer →
+login_step : (choice : Option (State → Knock → Option AuthId)) (state : State) (position : ℕ) (account : AuthId) (chosen : Option AuthId)
+    (events : AuthId → List Event) (moment at : ℤ) (knock : Knock) (answer : Result Login LoginRefusal) → moment ≤ℤ at → IsChosenBy choice state knock chosen → IsLoginReply state position events at knock chosen answer →
     IsTallied state account (events account) moment →
     IsTallied state account ((if is_account account chosen then login_events at answer else []) ++ events account) at
-login_step state position account None events moment at knock answer order choice reply tallied = later state account (events account) moment at order tallied
-login_step state position account (Some other) events moment at knock answer order choice reply tallied = by (same_auth account other) refl
+login_step choice state position account None events moment at knock answer order chose reply tallied = later state account (events account) moment at order tallied
+login_step choice state position account (Some other) events moment at knock answer order chose reply tallied = by (same_auth account other) refl
   where
     by : (own : Bool) → same_auth account other ≡ own → IsTallied state account ((if own then login_events at answer else []) ++ events account) at
     by false foreign = later state account (events account) moment at order tallied
     by true own =
         let same : other ≡ account = sym (equal_from_same_auth account other own) in
-        let own_choice : IsChosenAccount state knock (Some account) = subst (λ (who : AuthId). IsChosenAccount state knock (Some who)) same choice in
+        let own_chosen : IsChosenBy choice state knock (Some account) = subst (λ (who : AuthId). IsChosenBy choice state knock (Some who)) same chose in
         let own_reply : IsLoginReply state position events at knock (Some account) answer =
         subst (λ (who : AuthId). IsLoginReply state position events at knock (Some who) answer) same reply in
         own_login state position account (events account) moment at (is_password own_reply.0.verifier knock.verifier) own_reply.0
-        (tried_at own_reply.0 (events account) at knock.verifier) answer order (chosen_stands state knock account own_choice)
+        (tried_at own_reply.0 (events account) at knock.verifier) answer order (chosen_by_stands choice state knock account own_chosen)
         own_reply.1 refl own_reply.2 tallied
 
-end_step : (state : State) (account : AuthId) (chosen : Option AuthId) (events : List Event) (moment : ℤ) (caller number : ℕ) (call : Call) (reply : Reply) →
+end_step : (rules : Rules) (state : State) (account : AuthId) (chosen : Option AuthId) (events : List Event) (moment : ℤ) (caller number : ℕ) (call : Call) (reply : Reply) →
     chosen ≡ None → IsEndReply call reply → IsTallied state account events moment →
-    IsTallied (state_after (stored caller number call reply) state) account (events_in account chosen (moment_after moment call) call reply ++ events) (moment_after moment call)
+    IsTallied (state_after (stored rules caller number call reply) state) account (events_in account chosen (moment_after moment call) call reply ++ events) (moment_after moment call)
 unfolding state_after
-end_step state account chosen events moment caller number (Asks acting statement) (ToStatement (Err why)) none ended tallied = tallied
-end_step state account chosen events moment caller number (Asks acting statement) (ToStatement (Ok position)) none ended tallied = absurd (cc)
-end_step state account chosen events moment caller number (Asks acting statement) (ToLogin answer) none ended tallied = absurd ended
-end_step state account chosen events moment caller number (Knocks knock) (ToStatement answer) none ended tallied = absurd ended
-end_step state account chosen events moment caller number (Knocks knock) (ToLogin answer) none ended tallied =
+end_step rules state account chosen events moment caller number (Asks acting statement) (ToStatement (Err why)) none ended tallied = tallied
+end_step rules state account chosen events moment caller number (Asks acting statement) (ToStatement (Ok position)) none ended tallied = absurd (cc)
+end_step rules state account chosen events moment caller number (Asks acting statement) (ToLogin answer) none ended tallied = absurd ended
+end_step rules state account chosen events moment caller number (Knocks knock) (ToStatement answer) none ended tallied = absurd ended
+end_step rules state account chosen events moment caller number (Knocks knock) (ToLogin answer) none ended tallied =
     subst (λ (who : Option AuthId). IsTallied state account ((if is_account account who then login_events (at_moment moment knock.moment) answer else []) ++ events) (at_moment moment knock.moment))
     (sym none) (later state account events moment (at_moment moment knock.moment) (moment_up moment knock.moment) tallied)
 
 step : (ended : Bool) (origin : Origin) (past : Past) (account : AuthId) (caller number : ℕ) (chosen : Option AuthId) (call : Call) (reply : Reply) →
     IsReplyWhere ended origin past caller number chosen call reply →
     IsTallied (state_at origin past) account (events_of account past) (moment_of past) →
-    IsTallied (state_after (stored caller number call reply) (state_at origin past)) account
+    IsTallied (state_after (stored origin.rules caller number call reply) (state_at origin past)) account
     (events_in account chosen (moment_after (moment_of past) call) call reply ++ events_of account past) (moment_after (moment_of past) call)
 unfolding state_after
 step true origin past account caller number chosen call reply rule tallied =
-    end_step (state_at origin past) account chosen (events_of account past) (moment_of past) caller number call reply rule.0 rule.1 tallied
+    end_step origin.rules (state_at origin past) account chosen (events_of account past) (moment_of past) caller number call reply rule.0 rule.1 tallied
 step false origin past account caller number chosen (Asks acting statement) (ToStatement answer) rule tallied =
     statement_step origin.rules (entries_at origin past) (state_at origin past) account chosen (events_of account past) (moment_of past) acting caller number statement
     answer rule.1 tallied
 step false origin past account caller number chosen (Asks acting statement) (ToLogin answer) rule tallied = absurd rule
 step false origin past account caller number chosen (Knocks knock) (ToStatement answer) rule tallied = absurd rule
 step false origin past account caller number chosen (Knocks knock) (ToLogin answer) rule tallied =
-    login_step (state_at origin past) (length (entries_at origin past)) account chosen (λ who. events_of who past) (moment_of past)
+    login_step origin.rules.own_choice (state_at origin past) (length (entries_at origin past)) account chosen (λ who. events_of who past) (moment_of past)
     (at_moment (moment_of past) knock.moment) knock answer (moment_up (moment_of past) knock.moment) rule.0 rule.1 tallied
 
 tallied_after : (origin : Origin) (account : AuthId) (past : Past) → IsLegalPast origin past →

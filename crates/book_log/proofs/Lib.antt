@@ -8,3 +8,4 @@ pub mod Noting
 pub mod Numbers
 pub mod Stamps
 pub mod Standing
+pub mod WholeLog

@@ -1,7 +1,7 @@
 -- The items of a legal log can be noted in one way.
 use Rattle.std.proofs.Common.{◌≡◌, ◌∙◌, ℕ, Bool, true, false, [], ◌∷◌, length, Option, refl, sym, subst}
 use Rattle.acl_names.specs.declared.auth.AuthId.{AuthId}
-use Rattle.book_log.proofs.Chosen.{chosen_once}
+use Rattle.book_log.proofs.Chosen.{chosen_by_once}
 use Rattle.book_log.proofs.Fronts.{no_longer, same_fronts}
 use Rattle.book_log.specs.Items.{Call, Item, Reply}
 use Rattle.book_log.specs.Items.Call.{Asks, Knocks}
@@ -16,7 +16,7 @@ same_choice false origin past caller number one other (Asks acting statement) (T
 same_choice false origin past caller number one other (Asks acting statement) (ToLogin answer) first second = absurd first
 same_choice false origin past caller number one other (Knocks knock) (ToStatement answer) first second = absurd first
 same_choice false origin past caller number one other (Knocks knock) (ToLogin answer) first second =
-    chosen_once (state_at origin past) knock one other first.0 second.0
+    chosen_by_once origin.rules.own_choice (state_at origin past) knock one other first.0 second.0
 
 same_noted : (origin : Origin) (past : Past) (one other : Noted) → one.item ≡ other.item → IsReply origin past one → IsReply origin past other → one ≡ other
 unfolding IsReply

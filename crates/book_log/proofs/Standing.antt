@@ -9,7 +9,7 @@ use Rattle.acl_names.proofs.SameAuth.{same_auth_itself}
 use Rattle.acl_names.specs.AuthId.{same_auth}
 use Rattle.acl_names.specs.declared.auth.AuthId.{AuthId}
 use Rattle.book_log.specs.Items.{Knock}
-use Rattle.book_log.specs.Logins.{IsChosenAccount, auth_at}
+use Rattle.book_log.specs.Logins.{IsChosenAccount, IsChosenBy, auth_at}
 
 or_right : (a b : Bool) → b ≡ true → (a || b) ≡ true
 or_right true b holds = refl
@@ -35,3 +35,8 @@ listed_at account accounts (Some place) is = listed_there account accounts place
 
 pub chosen_stands : (state : State) (knock : Knock) (account : AuthId) → IsChosenAccount state knock (Some account) → stands state account ≡ true
 chosen_stands state knock account chosen = chosen.just_standing account ∙ listed_at account chosen.accounts chosen.place chosen.chosen_is
+
+pub chosen_by_stands : (choice : Option (State → Knock → Option AuthId)) (state : State) (knock : Knock) (account : AuthId) →
+    IsChosenBy choice state knock (Some account) → stands state account ≡ true
+chosen_by_stands None state knock account chosen = chosen_stands state knock account chosen
+chosen_by_stands (Some choice) state knock account chosen = chosen.1 account refl

@@ -6,4 +6,5 @@ pub mod Items
 pub mod Logins
 pub mod Logs
 pub mod Pasts
+pub mod Rules
 pub mod Statements

@@ -2,7 +2,7 @@
 -- the refusals is this product's own choice).
 use Rattle.std.specs.Prelude.{◌≡◌, ℕ, ℤ, Bool, true, false, ◌&&◌, ◌||◌, List, Option, Some, None, Result, Ok, Err, AllPairs, slice_get}
 use Rattle.std.specs.List.{list_any}
-use Rattle.std.specs.Option.{option_map}
+use Rattle.std.specs.Option.{ForSome, option_map}
 use Rattle.std.specs.declared.cmp.Ordering.TheVariants.{Less}
 use Rattle.account_match.specs.Choice.{IsChoice}
 use Rattle.account_match.specs.declared.listed.Listed.{Listed}
@@ -34,6 +34,11 @@ pub record IsChosenAccount (state : State) (knock : Knock) (chosen : Option Auth
   pub just_standing : (account : AuthId) → stands state account ≡ list_any (λ listed. same_auth account listed.auth) accounts
   pub is_choice : IsChoice accounts knock.user knock.client place
   pub chosen_is : chosen ≡ auth_at accounts place
+
+-- the account by the choice in use: the manual's, or the other one
+abbrev pub IsChosenBy : Option (State → Knock → Option AuthId) → State → Knock → Option AuthId → Type 0
+IsChosenBy None state knock chosen = IsChosenAccount state knock chosen
+IsChosenBy (Some choice) state knock chosen = (chosen ≡ choice state knock) × ForSome chosen (λ account. stands state account ≡ true)
 
 -- the roles that are active at login, each once and in order: the default ones of those that are granted, or all of them
 pub record AreActiveAtLogin (state : State) (account : AuthId) (roles : List AuthId) : Type 0 where

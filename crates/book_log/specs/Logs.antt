@@ -11,9 +11,10 @@ use Rattle.book_log.specs.Items.{Call, Item, Reply}
 use Rattle.book_log.specs.Items.Call.{Asks, Knocks}
 use Rattle.book_log.specs.Items.LoginRefusal.{Ended}
 use Rattle.book_log.specs.Items.Reply.{ToLogin, ToStatement}
-use Rattle.book_log.specs.Logins.{IsChosenAccount, IsLoginReply}
+use Rattle.book_log.specs.Logins.{IsChosenBy, IsLoginReply}
 use Rattle.book_log.specs.Pasts.{Noted, Past, events_of, log_of, moment_after, moment_of}
-use Rattle.book_log.specs.Statements.{IsStatementReply, Rules}
+use Rattle.book_log.specs.Rules.{Rules}
+use Rattle.book_log.specs.Statements.{IsStatementReply}
 use Rattle.priv_map.specs.declared.acting.Acting.{Acting}
 
 -- what a log begins with, and where it ends
@@ -32,7 +33,7 @@ is_ended (Some end) place = nat_le end place
 
 -- the accepted statements so far
 abbrev pub entries_at : Origin → Past → List Entry
-entries_at origin past = history origin.base (log_of past)
+entries_at origin past = history origin.rules origin.base (log_of past)
 
 -- what stands after them
 abbrev pub state_at : Origin → Past → State
@@ -48,9 +49,9 @@ abbrev pub IsReplyWhere : Bool → Origin → Past → ℕ → ℕ → Option Au
 IsReplyWhere true origin past caller number chosen call reply = (chosen ≡ None) × IsEndReply call reply
 IsReplyWhere false origin past caller number chosen (Asks acting statement) (ToStatement answer) =
     (chosen ≡ None)
-    × IsStatementReply origin.rules (entries_at origin past) (state_at origin past) acting (entry_of caller number acting statement) answer
+    × IsStatementReply origin.rules (entries_at origin past) (state_at origin past) acting (entry_of origin.rules caller number acting statement) answer
 IsReplyWhere false origin past caller number chosen (Knocks knock) (ToLogin answer) =
-    IsChosenAccount (state_at origin past) knock chosen
+    IsChosenBy origin.rules.own_choice (state_at origin past) knock chosen
     × IsLoginReply (state_at origin past) (length (entries_at origin past)) (λ account. events_of account past) (moment_after (moment_of past) (Knocks knock)) knock chosen answer
 IsReplyWhere false origin past caller number chosen _ _ = ⊥
 
@@ -73,7 +74,7 @@ with_end end origin = record { rules = origin.rules; start = origin.start; base 
 
 -- with the item the history has this entry more, at the number that was answered
 pub record IsOneMore (origin : Origin) (past : Past) (noted : Noted) (acting : Acting) (statement : Statement) (position : ℕ) (entry : Entry) : Type 0 where
-  pub entry_is : entry_of noted.item.caller noted.item.number acting statement ≡ Some entry
+  pub entry_is : entry_of origin.rules noted.item.caller noted.item.number acting statement ≡ Some entry
   pub history_is : entries_at origin (noted ∷ past) ≡ entries_at origin past ++ entry ∷ []
   pub position_is : position ≡ length (entries_at origin (noted ∷ past))
   pub state_is : state_at origin (noted ∷ past) ≡ after entry (state_at origin past)

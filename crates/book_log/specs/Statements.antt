@@ -1,21 +1,13 @@
 -- The reply to a statement (MySQL 8.0 Reference Manual, "Account Management Statements"; the order of the refusals is this
 -- product's own choice).
-use Rattle.std.specs.Prelude.{◌≡◌, ℕ, ◌+◌, Bool, true, false, List, length, Option, Some, None, Result, Ok, Err}
+use Rattle.std.specs.Prelude.{◌≡◌, ℕ, ◌+◌, true, false, List, length, Option, Some, None, Result, Ok, Err}
 use Rattle.acl_model.specs.Acceptance.{IsAccepted, IsRefused}
 use Rattle.acl_model.specs.State.{State}
 use Rattle.acl_stmt.specs.declared.entry.Entry.{Entry}
-use Rattle.acl_stmt.specs.declared.refusal.Missing.{Missing}
 use Rattle.acl_stmt.specs.declared.refusal.Refusal.{Refusal}
 use Rattle.acl_stmt.specs.declared.refusal.Refusal.TheVariants.{Closed, Denied, DiskFault, HistoryFull, NoMemory}
-use Rattle.acl_stmt.specs.declared.statement.Statement.{Statement}
+use Rattle.book_log.specs.Rules.{Rules}
 use Rattle.priv_map.specs.declared.acting.Acting.{Acting}
-
--- what is settled beside the log
-pub record Rules : Type 0 where
-  -- the privilege that a session lacks for a statement where this stands, if it lacks one
-  pub lacked : State → Acting → Statement → Option Missing
-  -- whether the journal has no room for an entry behind these
-  pub is_full : List Entry → Entry → Bool
 
 -- nothing keeps the statement from the journal
 pub record IsStorable (rules : Rules) (entries : List Entry) (state : State) (acting : Acting) (entry : Entry) : Type 0 where

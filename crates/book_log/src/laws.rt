@@ -8,16 +8,19 @@ ghost use Rattle.acl_names.specs.declared.auth.AuthId.{AuthId};
 ghost use Rattle.acl_stmt.specs.declared.entry.Entry.{Entry};
 ghost use Rattle.acl_stmt.specs.declared.statement.Statement.{Statement};
 ghost use Rattle.book_log.specs.Callers.{AreCounted, AreNumberedFrom, calls};
+ghost use Rattle.book_log.specs.ExampleLogs.{all_of, from_nothing};
 ghost use Rattle.book_log.specs.Histories.{history};
 ghost use Rattle.book_log.specs.Items.{Item, Knock, asked};
 ghost use Rattle.book_log.specs.Items.Reply.{ToStatement};
 ghost use Rattle.book_log.specs.Logins.{IsChosenAccount};
 ghost use Rattle.book_log.specs.Logs.{IsLegalLog, IsLegalPast, IsOneMore, IsReply, Origin, state_at, with_end};
 ghost use Rattle.book_log.specs.Pasts.{Past, events_of, log_of, moment_of};
+ghost use Rattle.book_log.specs.Rules.{Rules};
 ghost use Rattle.login_throttle.specs.History.{IsHistory, IsStampOf, blocking_failure};
 ghost use Rattle.login_throttle.specs.Tracking.{answer_of};
 ghost use Rattle.login_throttle.specs.declared.stamp.Stamp.{Stamp};
 ghost use Rattle.priv_map.specs.declared.acting.Acting.{Acting};
+ghost use Rattle.priv_map.specs.declared.held.Held.{Held};
 
 /// The law that the front of a legal log is legal, and that each item has the reply that the rules give after those before it.
 pub fn fronts_are_legal()
@@ -41,8 +44,8 @@ pub fn history_grows_with_done()
         IsReply origin past (record { item = asked caller number acting statement (Ok position); chosen = chosen }) →
         (entry : Entry) × IsOneMore origin past (record { item = asked caller number acting statement (Ok position); chosen = chosen })
         acting statement position entry }
-    ensures unchanged { (base : List Entry) (log : List Item) (item : Item) →
-        ((position : ℕ) → item.reply ≢ ToStatement (Ok position)) → history base (log ++ item ∷ []) ≡ history base log }
+    ensures unchanged { (rules : Rules) (base : List Entry) (log : List Item) (item : Item) →
+        ((position : ℕ) → item.reply ≢ ToStatement (Ok position)) → history rules base (log ++ item ∷ []) ≡ history rules base log }
 {}
 
 /// The law that a stamp, kept by attempts and resets alone, answers by what the whole log says of the account: its failures
@@ -71,10 +74,15 @@ pub fn calls_have_no_gaps()
 {}
 
 /// The law that a login chooses one account at most, whatever list the standing accounts are looked up in, and that a legal
-/// log therefore says in one way which accounts its logins chose.
+/// log therefore says in one way which accounts its logins chose, whichever choice is in use.
 pub fn logins_choose_once()
     ensures one { (state : State) (knock : Knock) (one other : Option AuthId) →
         IsChosenAccount state knock one → IsChosenAccount state knock other → one ≡ other }
     ensures log { (origin : Origin) (one other : Past) → IsLegalPast origin one → IsLegalPast origin other →
         log_of one ≡ log_of other → one ≡ other }
+{}
+
+/// The law that the worked example of a log of two sessions, in which a refused statement stands between accepted ones, is legal.
+pub fn worked_log_is_legal()
+    ensures { (held : Held) → IsLegalLog (from_nothing None) (log_of (all_of held)) }
 {}

@@ -8,5 +8,5 @@ mod laws;
 
 pub use laws::{
     calls_have_no_gaps, fronts_are_legal, history_grows_with_done, legal_logs_may_end,
-    logins_choose_once, stamps_count_the_log,
+    logins_choose_once, stamps_count_the_log, worked_log_is_legal,
 };

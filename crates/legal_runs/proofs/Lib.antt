@@ -1,3 +1,4 @@
+pub mod Answered
 pub mod Calls
 pub mod Known
 pub mod Later
@@ -6,3 +7,4 @@ pub mod Points
 pub mod Reports
 pub mod Told
 pub mod Working
+pub mod Wrong

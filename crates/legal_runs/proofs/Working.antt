@@ -26,7 +26,7 @@ pub added : (on : Setting) (events : List Event) (event : Event) → (more : Lis
 added on events Publish = ([], sym (append-nil (history_of on events)))
 added on events (By caller (Book chosen call reply)) =
     let item : Item = item_of caller (log_of (past_of events)) call reply in
-    (accepted_in item, history_more on.origin.base (log_of (past_of events)) item)
+    (accepted_in on.origin.rules item, history_more on.origin.rules on.origin.base (log_of (past_of events)) item)
 added on events (By caller Read) = ([], sym (append-nil (history_of on events)))
 added on events (By caller (Tell told)) = ([], sym (append-nil (history_of on events)))
 added on events (By caller (Answers command answer)) = ([], sym (append-nil (history_of on events)))

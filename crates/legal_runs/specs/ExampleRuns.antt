@@ -23,7 +23,7 @@ use Rattle.legal_runs.specs.Sessions.{Session, Views, after_line}
 use Rattle.legal_runs.specs.Sessions.Part.{Saw}
 use Rattle.priv_map.specs.declared.held.Held.{Held}
 
-abbrev from_start : Setting
+abbrev pub from_start : Setting
 from_start = record { origin = from_nothing None; shown = λ state account roles. NoSuchAccount account }
 
 -- session 0 has a statement accepted, session 1 looks before it is published and after, and then session 0 is told
@@ -69,7 +69,7 @@ example-numbers held = refl
 abbrev connected : Session
 connected = record { who = Some (record { account = ann; roles = []; current = None }); global = 3; schema = 3; now = 5 }
 
-abbrev pay : List ℕ
+abbrev pub pay : List ℕ
 pay = codes "pay"
 
 example-use_looks : (at : Views) → IsAnsweredAs from_start at connected.who (UseSchema pay) (Saw 7 ∷ []) (Schema pay)

@@ -1,5 +1,6 @@
 pub mod Commands
 pub mod Core
+pub mod ExampleReports
 pub mod ExampleRuns
 pub mod Lines
 pub mod Report

@@ -1,5 +1,5 @@
 -- Legal reports: what they say is right over the one history in which they end.
-use Rattle.std.specs.Prelude.{◌≡◌, ℕ, suc, max, ◌<◌, ◌≤◌, true, List, [], ◌∷◌, ◌++◌, length, All, Option, Some, None}
+use Rattle.std.specs.Prelude.{◌≡◌, ℕ, suc, ◌+◌, max, ◌<◌, ◌≤◌, true, List, [], ◌∷◌, ◌++◌, length, All, Option, Some, None}
 use Rattle.std.specs.Option.{option_map}
 use Rattle.acl_stmt.specs.declared.entry.Entry.{Entry}
 use Rattle.book_log.specs.Callers.{AreNumberedFrom, calls}
@@ -78,7 +78,7 @@ AreLegalSessions on entries log first _ _ = ⊥
 pub record IsLegalReport (on : Setting) (script : List (List Command)) (report : Report) : Type 0 where
   pub log_is_legal : IsLegalLog (with_end None on.origin) report.log
   pub callers : All (λ (item : Item). item.caller < length script) report.log
-  pub sessions : AreLegalSessions on (history on.origin.base report.log) report.log 0 script report.sessions
+  pub sessions : AreLegalSessions on (history on.origin.rules on.origin.base report.log) report.log 0 script report.sessions
 
 abbrev pub sessions_of : Setting → ℕ → List (List Command) → List Event → List (List LineAnswer)
 sessions_of on first [] events = []
@@ -122,3 +122,8 @@ call_count (Issue statement) NotConnected = 0
 call_count (Issue statement) NoMemory = 0
 call_count (Issue statement) _ = 1
 call_count _ _ = 0
+
+-- how many calls these lines make, by their answers
+abbrev pub calls_of : List Command → List LineAnswer → ℕ
+calls_of (command ∷ commands) (line ∷ lines) = call_count command line.answer + calls_of commands lines
+calls_of _ _ = 0

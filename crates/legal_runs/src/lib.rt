@@ -6,4 +6,7 @@
 
 mod laws;
 
-pub use laws::{legal_sessions_go_onward, lines_call_once, runs_are_legal, sessions_know_fronts};
+pub use laws::{
+    answers_go_onward, legal_sessions_go_onward, lines_call_once, runs_are_legal,
+    sessions_know_fronts, wrong_reports_are_not_legal,
+};

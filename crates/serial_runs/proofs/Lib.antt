@@ -1,0 +1,4 @@
+pub mod Done
+pub mod Onward
+pub mod Whole
+pub mod Workers
