@@ -1,9 +1,12 @@
 pub mod Beside
+pub mod Circles
 pub mod Columns
 pub mod Histories
+pub mod Known
 pub mod Longest
 pub mod Named
 pub mod Renamed
 pub mod Rules
 pub mod Splits
+pub mod Standing
 pub mod Within

@@ -3,7 +3,9 @@
 ghost use Rattle.std.specs.Prelude.{◌≤◌, ℕ, IsTrue, List, filter, length};
 ghost use Rattle.accepted_lists.specs.Accepted.{AreAccepted};
 ghost use Rattle.accepted_lists.specs.Listed.{ListsRows};
+ghost use Rattle.accepted_lists.specs.Roles.{HasNoCircle};
 ghost use Rattle.accepted_lists.specs.Sound.{IsSound};
+ghost use Rattle.accepted_lists.specs.Standing.{HasItsAccounts};
 ghost use Rattle.acl_model.specs.Acceptance.{IsAccepted, limits_in_order};
 ghost use Rattle.acl_model.specs.Counts.{IsExceeded};
 ghost use Rattle.acl_model.specs.Effects.{after, state_after};
@@ -33,4 +35,19 @@ pub fn accepted_statements_stay_within_limits()
         → ListsRows rows (state_after history opening)
         → (a : AuthId) (schema table : List ℕ) (p : ℕ) (columns : List (List ℕ)) → IsTrue (all_differ_by text_eq columns)
         → length (filter (λ c. (state_after history opening).rows (Column a schema table c p)) columns) ≤ 65536 }
+{}
+
+/// After each accepted list the accounts stand that rows name, and password, lock and policy are known of just the accounts
+/// that stand.
+pub fn accepted_statements_keep_accounts()
+    ensures first { HasItsAccounts opening }
+    ensures next { (state : State) (entry : Entry) → HasItsAccounts state → IsAccepted state entry → HasItsAccounts (after entry state) }
+    ensures history { (history : List Entry) → AreAccepted history opening → HasItsAccounts (state_after history opening) }
+{}
+
+/// After each accepted list no role reaches an account that holds it.
+pub fn accepted_statements_close_no_circle()
+    ensures first { HasNoCircle opening.rows }
+    ensures next { (state : State) (entry : Entry) → HasNoCircle state.rows → IsAccepted state entry → HasNoCircle (after entry state).rows }
+    ensures history { (history : List Entry) → AreAccepted history opening → HasNoCircle (state_after history opening).rows }
 {}

@@ -6,4 +6,7 @@
 
 mod laws;
 
-pub use laws::{accepted_statements_keep_rows_sound, accepted_statements_stay_within_limits};
+pub use laws::{
+    accepted_statements_close_no_circle, accepted_statements_keep_accounts,
+    accepted_statements_keep_rows_sound, accepted_statements_stay_within_limits,
+};

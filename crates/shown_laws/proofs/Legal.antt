@@ -1,9 +1,8 @@
 -- Each printed statement is one that a history may hold, without limits.
-use Rattle.std.proofs.Common.{◌≡◌, ◌∙◌, ap, sym, refl, ℕ, ◌<◌, ◌==◌, Bool, true, false, cond, not, ◌&&◌, ◌||◌, List, [], ◌∷◌, ◌++◌, arith}
+use Rattle.std.proofs.Common.{◌≡◌, ◌∙◌, ap, sym, refl, ℕ, ◌<◌, ◌==◌, Bool, true, false, cond, not, ◌&&◌, ◌||◌, List, [], ◌∷◌, arith}
 use Rattle.std.proofs.lemmas.Bool.{and_from, and_parts, lt-ltb, or_right}
-use Rattle.std.proofs.lemmas.List.Folds.{list_all-append}
 use Rattle.std.proofs.lemmas.Nat.Bits.{bit_at-zero}
-use Rattle.std.specs.List.{flat_map, list_all}
+use Rattle.std.specs.List.{list_all}
 use Rattle.acl_names.specs.declared.auth.AuthId.{AuthId}
 use Rattle.acl_stmt.specs.Entries.{is_complete, is_entry, may_have_limits}
 use Rattle.acl_stmt.specs.Lists.{is_some_list}
@@ -16,38 +15,19 @@ use Rattle.acl_stmt.specs.declared.statement.Statement.TheVariants.{Grant, Grant
 use Rattle.acl_stmt.specs.declared.target.Target.{Target}
 use Rattle.acl_stmt.specs.declared.target.Target.TheVariants as on
 use Rattle.listed_privileges.proofs.Bits.{all_from, bits_within}
-use Rattle.listed_privileges.specs.Sets.{but_option, some_below}
+use Rattle.listed_privileges.specs.Sets.{but_option}
 use Rattle.priv_sets.specs.Levels.{grant_option, has_level}
 use Rattle.priv_sets.specs.Privileges.{is_global_level}
 use Rattle.priv_sets.specs.StaticSet.{holds}
 use Rattle.priv_sets.specs.declared.level.Level.TheVariants as level
 use Rattle.show_grants.specs.Keys.{Pair}
-use Rattle.show_grants.specs.Lines.{column_privileges, columns_held, dynamic_lines, dynamic_list, function_line, global_line, grantable, line_if, lines_of, plain_list, procedure_line, restriction_line, role_line, roles_of, schema_line, table_line, table_privileges, ungrantable}
+use Rattle.show_grants.specs.Lines.{column_privileges, columns_held, dynamic_list, global_line, granting, lines_of, plain_list, roles_of, table_privileges}
 use Rattle.show_grants.specs.Listing.{Listing}
 use Rattle.show_grants.specs.Rights.{Held}
 use Rattle.shown_laws.proofs.ColumnNames.{all-filter}
-use Rattle.shown_laws.proofs.Feasible.{found_below}
+use Rattle.shown_laws.proofs.EachLine.{all_pass}
 use Rattle.shown_laws.proofs.Orderly.{IsOrderly}
 use Rattle.shown_laws.proofs.Tests.{implies}
-
--- ---- lists of statements
-
-abbrev pub Legal : List Statement → Type 0
-Legal ss = list_all (is_entry []) ss ≡ true
-
-legal_one : (s : Statement) → is_entry [] s ≡ true → Legal (s ∷ [])
-legal_one s legal = and_from (is_entry [] s) true legal refl
-
-legal_append : (xs ys : List Statement) → Legal xs → Legal ys → Legal (xs ++ ys)
-legal_append xs ys first second = list_all-append (is_entry []) xs ys ∙ and_from (list_all (is_entry []) xs) (list_all (is_entry []) ys) first second
-
-legal_if : (t : Bool) (s : Statement) → (t ≡ true → is_entry [] s ≡ true) → Legal (line_if t s)
-legal_if true s legal = legal_one s (legal refl)
-legal_if false s legal = refl
-
-legal_each : {K : Type 0} (f : K → List Statement) → ((k : K) → Legal (f k)) → (keys : List K) → Legal (flat_map f keys)
-legal_each f legal [] = refl
-legal_each f legal (k ∷ keys) = legal_append (f k) (flat_map f keys) (legal k) (legal_each f legal keys)
 
 -- ---- requests
 
@@ -154,19 +134,17 @@ module _ (a : AuthId) (held : Held) (listing : Listing) (orderly : IsOrderly hel
       (grant_statement a (table_privileges held listing k) (on.Table k.0 k.1) (T grant_option)
       (columns_request (but_option T) (columns_held held listing k) k.0 k.1 (but_level T (on.Table k.0 k.1) (orderly.table_level k.0 k.1))) (no_option T)) refl refl
 
-  some_function : (k : Pair) → some_below 31 (held.on_function k.0 k.1) ≡ true → is_entry [] (Grant (plain_list (but_option (held.on_function k.0 k.1))) (on.Function k.0 k.1) (a ∷ []) (held.on_function k.0 k.1 grant_option)) ≡ true
-  some_function k some =
+  function_legal : (k : Pair) (p : ℕ) → held.on_function k.0 k.1 p ≡ true → is_entry [] (granting (on.Function k.0 k.1) a (held.on_function k.0 k.1)) ≡ true
+  function_legal k p holds =
       let T : ℕ → Bool = held.on_function k.0 k.1 in
-      let at = found_below 31 T some in
-      entry_from (Grant (plain_list (but_option T)) (on.Function k.0 k.1) (a ∷ []) (T grant_option))
-      (granting_statement a T (on.Function k.0 k.1) (orderly.function_level k.0 k.1) (orderly.function_lower k.0 k.1 at.0 at.2)) refl refl
+      entry_from (granting (on.Function k.0 k.1) a T)
+      (granting_statement a T (on.Function k.0 k.1) (orderly.function_level k.0 k.1) (orderly.function_lower k.0 k.1 p holds)) refl refl
 
-  some_procedure : (k : Pair) → some_below 31 (held.on_procedure k.0 k.1) ≡ true → is_entry [] (Grant (plain_list (but_option (held.on_procedure k.0 k.1))) (on.Procedure k.0 k.1) (a ∷ []) (held.on_procedure k.0 k.1 grant_option)) ≡ true
-  some_procedure k some =
+  procedure_legal : (k : Pair) (p : ℕ) → held.on_procedure k.0 k.1 p ≡ true → is_entry [] (granting (on.Procedure k.0 k.1) a (held.on_procedure k.0 k.1)) ≡ true
+  procedure_legal k p holds =
       let T : ℕ → Bool = held.on_procedure k.0 k.1 in
-      let at = found_below 31 T some in
-      entry_from (Grant (plain_list (but_option T)) (on.Procedure k.0 k.1) (a ∷ []) (T grant_option))
-      (granting_statement a T (on.Procedure k.0 k.1) (orderly.procedure_level k.0 k.1) (orderly.procedure_lower k.0 k.1 at.0 at.2)) refl refl
+      entry_from (granting (on.Procedure k.0 k.1) a T)
+      (granting_statement a T (on.Procedure k.0 k.1) (orderly.procedure_level k.0 k.1) (orderly.procedure_lower k.0 k.1 p holds)) refl refl
 
   role_legal : (b : Bool) → is_some_list (roles_of held listing b) ≡ true → is_entry [] (GrantRoles (roles_of held listing b) (a ∷ []) b) ≡ true
   role_legal b some =
@@ -175,29 +153,14 @@ module _ (a : AuthId) (held : Held) (listing : Listing) (orderly : IsOrderly hel
       (all-filter is_named (λ r. held.role r && cond b (held.admin r) (not (held.admin r)))
       (λ r both. orderly.role_named r (and_parts (held.role r) (cond b (held.admin r) (not (held.admin r))) both).0) listing.roles)) refl refl
 
-  pub all_legal : Legal (lines_of a held listing)
-  unfolding lines_of
-  all_legal =
-      legal_append (global_line a held ∷ []) _ (legal_one (global_line a held) global_legal)
-      (legal_append (dynamic_lines a held) _
-      (legal_append (line_if (some_below 20 (ungrantable held)) (Grant (dynamic_list (ungrantable held)) on.Global (a ∷ []) false)) _
-      (legal_if (some_below 20 (ungrantable held)) (Grant (dynamic_list (ungrantable held)) on.Global (a ∷ []) false) (λ some. dynamic_legal (ungrantable held) false))
-      (legal_if (some_below 20 (grantable held)) (Grant (dynamic_list (grantable held)) on.Global (a ∷ []) true) (λ some. dynamic_legal (grantable held) true)))
-      (legal_append (flat_map (restriction_line a held) listing.schemas) _
-      (legal_each (restriction_line a held) (λ s. legal_if (some_below 31 (held.restricted s)) (Revoke (plain_list (held.restricted s)) (on.Schema s) (a ∷ [])) (λ some. restriction_legal s)) listing.schemas)
-      (legal_append (flat_map (schema_line a held) listing.schemas) _
-      (legal_each (schema_line a held)
-      (λ s. legal_if (some_below 31 (held.on_schema s)) (Grant (plain_list (but_option (held.on_schema s))) (on.Schema s) (a ∷ []) (held.on_schema s grant_option)) (λ some. schema_legal s)) listing.schemas)
-      (legal_append (flat_map (table_line a held listing) listing.tables) _
-      (legal_each (table_line a held listing)
-      (λ k. legal_if (some_below 31 (λ p. held.on_table k.0 k.1 p || is_some_list (columns_held held listing k p)))
-      (Grant (table_privileges held listing k) (on.Table k.0 k.1) (a ∷ []) (held.on_table k.0 k.1 grant_option)) (λ some. table_legal k)) listing.tables)
-      (legal_append (flat_map (function_line a held) listing.functions) _
-      (legal_each (function_line a held)
-      (λ k. legal_if (some_below 31 (held.on_function k.0 k.1)) (Grant (plain_list (but_option (held.on_function k.0 k.1))) (on.Function k.0 k.1) (a ∷ []) (held.on_function k.0 k.1 grant_option)) (some_function k)) listing.functions)
-      (legal_append (flat_map (procedure_line a held) listing.procedures) _
-      (legal_each (procedure_line a held)
-      (λ k. legal_if (some_below 31 (held.on_procedure k.0 k.1)) (Grant (plain_list (but_option (held.on_procedure k.0 k.1))) (on.Procedure k.0 k.1) (a ∷ []) (held.on_procedure k.0 k.1 grant_option)) (some_procedure k)) listing.procedures)
-      (legal_append (role_line a held listing false) (role_line a held listing true)
-      (legal_if (is_some_list (roles_of held listing false)) (GrantRoles (roles_of held listing false) (a ∷ []) false) (role_legal false))
-      (legal_if (is_some_list (roles_of held listing true)) (GrantRoles (roles_of held listing true) (a ∷ []) true) (role_legal true)))))))))
+  pub all_legal : list_all (is_entry []) (lines_of a held listing) ≡ true
+  all_legal = all_pass (is_entry []) a held listing (record {
+    global = global_legal;
+    dynamic = dynamic_legal;
+    restriction = λ s p holds. restriction_legal s;
+    schema = λ s p holds. schema_legal s;
+    table = λ k p holds. table_legal k;
+    function = function_legal;
+    procedure = procedure_legal;
+    roles = role_legal;
+  })

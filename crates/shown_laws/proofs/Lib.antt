@@ -1,4 +1,5 @@
 pub mod ColumnNames
+pub mod EachLine
 pub mod Entries
 pub mod Feasible
 pub mod Found

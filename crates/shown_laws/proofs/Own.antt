@@ -26,7 +26,7 @@ use Rattle.shown_laws.proofs.Orderly.{IsListed, IsOrderly}
 use Rattle.shown_laws.specs.Known.{Covers, is_default}
 
 -- one account holds what its rows say
-alone : (x : Bool) → (x || false) ≡ true → x ≡ true
+pub alone : (x : Bool) → (x || false) ≡ true → x ≡ true
 alone true is = refl
 alone false is = is
 
@@ -43,7 +43,7 @@ module _ (st : State) (a : AuthId) (sound : IsSound st) where
   restricted_row : (s : List ℕ) (p : ℕ) → (held_by st (a ∷ []) a).restricted s p ≡ st.rows (Restriction a p s)
   restricted_row s p = restricted_alone_by (st.rows (Global a p)) (st.rows (Restriction a p s)) (λ is. (beside_parts s p is).0)
 
-  is_restriction : (s : List ℕ) (p : ℕ) → (held_by st (a ∷ []) a).restricted s p ≡ true → st.rows (Restriction a p s) ≡ true
+  pub is_restriction : (s : List ℕ) (p : ℕ) → (held_by st (a ∷ []) a).restricted s p ≡ true → st.rows (Restriction a p s) ≡ true
   is_restriction s p is = sym (restricted_row s p) ∙ is
 
   -- what is held is what the rows say
