@@ -239,3 +239,19 @@ fn entries_stand_by_their_holders(rt: HostRuntime) -> Result<(), Fail> {
     }
     Ok(())
 }
+
+#[test]
+fn entries_go_with_their_holder(rt: HostRuntime) -> Result<(), Fail> {
+    let mut held = HeldBits::new(rt.alloc());
+    for step in &STEPS {
+        take(&rt, &mut held, step)?;
+    }
+    assert_eq!(rt; held.len(), LEFT.len());
+    held.replace_at(2, Bits::none());
+    assert_eq!(rt; held.first_of(3), 2);
+    held.clear_holder(1);
+    assert!(rt; !held.is_empty() && holds(&held, 3, b'a', 6, 0));
+    assert_eq!(rt; held.len(), 1);
+    assert_eq!(rt; held.things(), 1);
+    Ok(())
+}

@@ -6,3 +6,4 @@ pub mod Changes
 pub mod Places
 pub mod Sound
 pub mod Readings
+pub mod Clearing

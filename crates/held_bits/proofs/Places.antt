@@ -3,18 +3,18 @@ use Rattle.std.proofs.Common.{◌≡◌, ◌∙◌, refl, sym, ap, subst, ℕ, B
 use Rattle.std.specs.Cmp.{IsEquivalence}
 use Rattle.std.proofs.lemmas.Bool.{true≢false}
 use Rattle.std.proofs.lemmas.List.{get_or_read}
-use Rattle.std.proofs.lemmas.Option.{get_or_from_slice_get, slice_get_within}
+use Rattle.std.proofs.lemmas.Option.{get_or_from_slice_get}
 use Rattle.numbered_names.specs.Numbered.{name_at, is_name, HasEachOnce}
 use Rattle.held_bits.specs.declared.bits.Bits.{Bits}
 use Rattle.held_bits.specs.declared.record.Record.{Record}
 use Rattle.held_bits.specs.Bits.{are_none, record_count}
 use Rattle.held_bits.specs.HeldBits.{CountsUses, Entry, ReplacesAt, SetsBits, bits_at}
 use Rattle.held_bits.specs.Records.{IsHeld, bits_in, entries_of, record_limit}
-use Rattle.held_bits.specs.Written.{IsWritten, StandsAt}
+use Rattle.held_bits.specs.Written.{IsWritten}
 use Rattle.held_bits.proofs.Tables.{bits_found, no_record}
 use Rattle.held_bits.proofs.Writes.{some_counted}
 use Rattle.held_bits.proofs.Entries.{IsEntryOf, bits_known, entry_at, held_counted}
-use Rattle.held_bits.proofs.Changes.{held_length, held_named, used_within, released_held, sets_released, count_released, uses_released, things_released, room_released}
+use Rattle.held_bits.proofs.Changes.{held_named, used_within, released_held, sets_released, count_released, uses_released, things_released, room_released}
 
 some_name : {K : Type 0} (o : Option K) → is_some o ≡ true → (k : K) × (o ≡ Some k)
 some_name None is = absurd (true≢false (sym is))

@@ -94,6 +94,12 @@ pub record ReplacesAt {K : Type 0} (eq : K → K → Bool) (old new : List (Entr
   pub uses : (entry : Entry K) → slice_get old place ≡ Some entry → CountsUses eq old new entry.thing entry.bits bits
   pub things : (entry : Entry K) → slice_get old place ≡ Some entry → CountsThings eq old new entry.thing
 
+-- one holder holds nothing now, and all else stays
+pub record ClearsHolder {K : Type 0} (eq : K → K → Bool) (old new : List (Entry K)) (holder : ℕ) : Type 0 where
+  pub sets : (h : ℕ) (k : K) → bits_at eq new h k ≡ (if h == holder then no_bits else bits_at eq old h k)
+  pub uses : (k : K) → uses_in eq new k + record_count (bits_at eq old holder k) ≡ uses_in eq old k
+  pub things : thing_count eq new ≤ thing_count eq old
+
 -- the entries of the holders before one stand before a place, and those of the holder and of later ones from it on
 pub record IsFirstOf {K : Type 0} (entries : List (Entry K)) (holder place : ℕ) : Type 0 where
   pub inside : place ≤ length entries

@@ -1,6 +1,7 @@
-ghost use Rattle.std.specs.Prelude.{◌≡◌, ◌+◌, ◌<◌, ◌≤◌, ◌↔◌, ℕ, false, true, [], None, Some, length, slice_get, IfNone, IfOk, IfSome, IsTrue, OnOk};
+ghost use Rattle.std.specs.Prelude.{◌≡◌, ◌==◌, ◌+◌, ◌<◌, ◌≤◌, ◌↔◌, ℕ, false, true, [], None, Some, length, slice_get, All, IfNone, IfOk, IfSome, IsTrue, OnOk};
 ghost use Rattle.held_bits.specs.Bits.{are_none, no_bits, record_count, AreWithin};
-ghost use Rattle.held_bits.specs.HeldBits.{bits_at, has_thing, thing_count, uses_in, AreThings, CountsThings, CountsUses, IsFirstOf, IsSound, ReplacesAt, SetsBits};
+ghost use Rattle.held_bits.specs.Clearing.{IsAt};
+ghost use Rattle.held_bits.specs.HeldBits.{bits_at, has_thing, thing_count, uses_in, AreThings, ClearsHolder, CountsThings, CountsUses, IsFirstOf, IsSound, ReplacesAt, SetsBits};
 
 use crate::Bits;
 use crate::numbers::{number_for, release};
@@ -223,6 +224,32 @@ impl<K: Eq + Hash + Drop> HeldBits<K> {
             bits,
         );
         release(&mut self.things, &self.uses, record.thing);
+    }
+
+    /// Takes away all that the holder holds. It takes no room.
+    pub fn clear_holder(&mut self, holder: u32)
+        ensures holder { ClearsHolder K.eq self.old.entries self.new.entries holder }
+        ensures record_room { self.new.record_room + length self.new.entries ≡
+            self.old.record_room + length self.old.entries }
+        ensures thing_room { self.old.thing_room ≤ self.new.thing_room }
+    {
+        while let Some(place) = self.place_of(holder) {
+            self.is_sound();
+            self.replace_at(place, Bits::none());
+        }
+    }
+
+    // The place of the holder's first entry, None where it has none.
+    fn place_of(&self, holder: u32) -> Option<usize>
+        ensures is { IfSome result (λ place. IsAt self.now.entries holder place) }
+        ensures none { IfNone result (All (λ entry. (holder == entry.holder) ≡ false) self.now.entries) }
+    {
+        let place = self.first_of(holder);
+        self.is_sound();
+        match self.get(place) {
+            Some((other, _, _)) if other == holder => Some(place),
+            _ => None,
+        }
     }
 
     // Sets what the holder holds on the thing, where that takes no room.
