@@ -16,7 +16,8 @@ use Rattle.held_bits.specs.declared.bits.Bits.{Bits}
 use Rattle.object_bits.proofs.SameObjects.{equal_from_same_object}
 use Rattle.object_bits.specs.Objects.{same_object}
 use Rattle.object_bits.specs.declared.object.Object.{Object}
-use Rattle.role_graph.specs.Edges.{Edges, granted, with_admin}
+use Rattle.std.specs.List.{list_any}
+use Rattle.role_graph.specs.Edges.{Edges, granted, is_admin_link, linked, with_admin}
 
 module _ (op : Bool → Bool → Bool) (leaves : (x : Bool) → op x false ≡ x) where
   -- one holding is changed, and each other stays
@@ -135,3 +136,14 @@ module _ (op : Bool → Bool → Bool) (leaves : (x : Bool) → op x false ≡ x
       all_changes changes (Edge role to) = stays (holds old (Edge role to))
       all_changes changes (Admin role to) = stays (holds old (Admin role to))
       all_changes changes (Default of role) = stays (holds old (Default of role))
+
+-- tables with the same entries hold alike
+pub alike_parts : (old new : Holdings) → new.globals ≡ old.globals → new.schemas.entries ≡ old.schemas.entries → new.objects.entries ≡ old.objects.entries
+    → new.roles.links ≡ old.roles.links → new.defaults.entries ≡ old.defaults.entries → (holding : Holding) → holds new holding ≡ holds old holding
+alike_parts old new globals schemas objects roles defaults (OnAll kind n p) = ap (λ g. has_bit (bits_of_kind kind (global_bits g n)) p) globals
+alike_parts old new globals schemas objects roles defaults (OnSchema n s p) = ap (λ es. has_bit (bits_at text_eq es n s).granted p) schemas
+alike_parts old new globals schemas objects roles defaults (Restricted n s p) = ap (λ es. has_bit (bits_at text_eq es n s).restricted p) schemas
+alike_parts old new globals schemas objects roles defaults (OnObject n o p) = ap (λ es. has_bit (bits_at same_object es n o).granted p) objects
+alike_parts old new globals schemas objects roles defaults (Edge role to) = ap (λ links. linked links to role) roles
+alike_parts old new globals schemas objects roles defaults (Admin role to) = ap (λ links. list_any (is_admin_link to role) links) roles
+alike_parts old new globals schemas objects roles defaults (Default of role) = ap (λ es. not (are_none (bits_at (λ one other. one == other) es of role))) defaults

@@ -9,8 +9,8 @@ ghost use Rattle.role_graph.specs.Paths.{Reaches};
 use crate::bits::{has_bit, with_bit, without_bit};
 use crate::globals::{GlobalBits, GlobalKind};
 use crate::holding::Holding;
-use crate::room::HoldingsRoom;
 use crate::role_number::RoleNumber;
+use crate::room::HoldingsRoom;
 use acl_names::Ident;
 use held_bits::{Bits, HeldBits};
 use object_bits::{Object, ObjectBits, ObjectRef};
@@ -62,6 +62,20 @@ impl AccountHoldings {
             roles: Graph::new(alloc),
             defaults: HeldBits::new(alloc),
         }
+    }
+
+    /// The same holdings in memory of their own.
+    pub fn copy(&self, alloc: Global) -> Result<AccountHoldings, AllocError>
+        ensures alike { IfOk result (λ made. HoldAlike self.now made) }
+        ensures accounts { IfOk result (λ made. length made.globals ≡ length self.now.globals) }
+    {
+        Ok(AccountHoldings {
+            globals: Vec::from_slice(alloc, &self.globals)?,
+            schemas: self.schemas.copy(alloc)?,
+            objects: self.objects.copy(alloc)?,
+            roles: self.roles.copy(alloc)?,
+            defaults: self.defaults.copy(alloc)?,
+        })
     }
 
     /// Whether the account holds the privilege on `*.*`.
@@ -221,7 +235,8 @@ impl AccountHoldings {
         ensures accounts { length self.new.globals ≡ length self.old.globals }
     {
         let before = self.objects.bits(account, object.by_reference());
-        self.objects.put(account, object, with_bit(before, privilege));
+        self.objects
+            .put(account, object, with_bit(before, privilege));
     }
 
     /// Takes the privilege on the object from the account.
@@ -234,7 +249,8 @@ impl AccountHoldings {
         if before == 0 {
             return;
         }
-        self.objects.replace(account, object, without_bit(before, privilege));
+        self.objects
+            .replace(account, object, without_bit(before, privilege));
     }
 
     /// What accounts hold on tables, columns and routines.

@@ -2,8 +2,8 @@
 ghost use Rattle.std.specs.Prelude.{◌≡◌, ◌<◌, ◌==◌, ◌&&◌, ◌||◌, ℕ, not};
 ghost use Rattle.account_holdings.specs.Bits.{has_bit as is_in};
 
-// Whether the bit of the number is set.
-pub(crate) fn has_bit(set: u32, number: u8) -> bool
+/// Whether the bit of the number is set, the lowest bit for 0. There is none from 32 on.
+pub fn has_bit(set: u32, number: u8) -> bool
     ensures { result ≡ is_in set number }
 {
     number < 32 && set >> number & 1 == 1

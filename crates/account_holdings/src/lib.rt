@@ -9,6 +9,7 @@ mod role_number;
 mod room;
 
 pub use account_holdings::AccountHoldings;
+pub use bits::has_bit;
 pub use globals::{GlobalBits, GlobalKind};
 pub use holding::Holding;
 pub use role_number::RoleNumber;

@@ -96,11 +96,13 @@ module _ (tables : Tables) (once : HasEachOnce same_auth tables.accounts.names) 
     entry_stands i d inside =
         let e = get_or schemas i d in
         let reads = bits_of_entry text_eq (decides text_eq equal_from_text_eq text_eq_itself) schemas sound i d inside in
-        let bit = some_bit e.bits (sound.within i d inside).1 (sound.some i d inside) in
-        (bit.0, elim bit.1 [
-          | inl granted ↦ inl (ap (λ b. has_bit b.granted bit.0) reads ∙ granted)
-          | inr kept ↦ inr (ap (λ b. has_bit b.restricted bit.0) reads ∙ kept)
-        ])
+        let bit = some_bit e.bits (sound.within i d inside).1 (sound.some i d inside) in (
+          bit.0,
+          elim bit.1 [
+            | inl granted ↦ inl (ap (λ b. has_bit b.granted bit.0) reads ∙ granted)
+            | inr kept ↦ inr (ap (λ b. has_bit b.restricted bit.0) reads ∙ kept)
+          ],
+        )
 
     holder_stands : (i : ℕ) (d : Entry (List ℕ)) → i < length schemas → (b : AuthId) × (name_at names (get_or schemas i d).holder ≡ Some b)
     holder_stands i d inside =
@@ -116,11 +118,13 @@ module _ (tables : Tables) (once : HasEachOnce same_auth tables.accounts.names) 
     unfolding state_of
     entry_rows i d inside =
         let e = get_or schemas i d in
-        let found = entry_stands i d inside in
-        (found.0, elim found.1 [
-          | inl granted ↦ inl (row_stands tables once well (held.OnSchema e.holder e.thing found.0) granted)
-          | inr kept ↦ inr (row_stands tables once well (held.Restricted e.holder e.thing found.0) kept)
-        ])
+        let found = entry_stands i d inside in (
+          found.0,
+          elim found.1 [
+            | inl granted ↦ inl (row_stands tables once well (held.OnSchema e.holder e.thing found.0) granted)
+            | inr kept ↦ inr (row_stands tables once well (held.Restricted e.holder e.thing found.0) kept)
+          ],
+        )
 
     -- and the entry of a row
     row_entry : (a : AuthId) (s : List ℕ) → IsPairInUse (state_of tables) (a, s) → (n : ℕ) × (number_of names a ≡ Some n) × (are_none (bits_at text_eq schemas n s) ≡ false)
@@ -209,11 +213,13 @@ module _ (tables : Tables) (once : HasEachOnce same_auth tables.accounts.names) 
     object_stands i d inside =
         let e = get_or objects i d in
         let reads = bits_of_entry same_object (decides same_object equal_from_same_object same_object_itself) objects sound i d inside in
-        let bit = some_bit e.bits (sound.within i d inside).1 (sound.some i d inside) in
-        (bit.0, elim bit.1 [
-          | inl granted ↦ ap (λ b. has_bit b.granted bit.0) reads ∙ granted
-          | inr kept ↦ absurd (true≢false (sym kept ∙ ap (λ n. has_bit n bit.0) (plain i d inside) ∙ zero_bits bit.0))
-        ])
+        let bit = some_bit e.bits (sound.within i d inside).1 (sound.some i d inside) in (
+          bit.0,
+          elim bit.1 [
+            | inl granted ↦ ap (λ b. has_bit b.granted bit.0) reads ∙ granted
+            | inr kept ↦ absurd (true≢false (sym kept ∙ ap (λ n. has_bit n bit.0) (plain i d inside) ∙ zero_bits bit.0))
+          ],
+        )
 
     object_holder : (i : ℕ) (d : Entry Object) → i < length objects → (b : AuthId) × (name_at names (get_or objects i d).holder ≡ Some b)
     object_holder i d inside =

@@ -15,6 +15,7 @@ use Rattle.acl_model.specs.declared.row.Row.TheVariants.{Account, Global, Dynami
 use Rattle.numbered_names.specs.Numbered.{HasEachOnce, name_at}
 use Rattle.acl_names.specs.AuthId.{same_auth}
 use Rattle.numbered_rows.specs.Conditions.{is_account}
+pub use Rattle.numbered_rows.specs.NamedRows.{name_of, name_or_root, object_row, row_of}
 use Rattle.numbered_rows.specs.Numbering.{holding_of, number_of, one_number, two_numbers}
 use Rattle.numbered_rows.proofs.Numbers.{Names, named_at, number_is}
 use Rattle.object_bits.specs.declared.object.Object.{Object}
@@ -79,31 +80,6 @@ in_parts names (Default of role) other = refl
 in_parts names (Restriction a p s) other = twice (λ n. held.Restricted n s p) (number_of names a)
 
 -- ---- from a holding back to the row
-
-abbrev pub name_or_root : Option AuthId → AuthId
-name_or_root None = root
-name_or_root (Some a) = a
-
-abbrev pub name_of : Names → ℕ → AuthId
-name_of names n = name_or_root (name_at names n)
-
-
-abbrev pub object_row : AuthId → Object → ℕ → Row
-object_row a (object.Table s t) p = Table a s t p
-object_row a (object.Column s t c) p = Column a s t c p
-object_row a (object.Function s f) p = Function a s f p
-object_row a (object.Procedure s f) p = Procedure a s f p
-
-abbrev pub row_of : Names → Holding → Row
-row_of names (held.OnAll kind.Static n p) = Global (name_of names n) p
-row_of names (held.OnAll kind.Dynamic n p) = Dynamic (name_of names n) p
-row_of names (held.OnAll kind.Grantable n p) = DynamicGrant (name_of names n) p
-row_of names (held.OnSchema n s p) = Schema (name_of names n) s p
-row_of names (held.Restricted n s p) = Restriction (name_of names n) p s
-row_of names (held.OnObject n o p) = object_row (name_of names n) o p
-row_of names (held.Edge role to) = Edge (name_of names role) (name_of names to)
-row_of names (held.Admin role to) = Admin (name_of names role) (name_of names to)
-row_of names (held.Default of role) = Default (name_of names of) (name_of names role)
 
 name_again : (names : Names) (a : AuthId) (n : ℕ) → number_of names a ≡ Some n → name_of names n ≡ a
 name_again names a n found = ap name_or_root (named_at names a n found)

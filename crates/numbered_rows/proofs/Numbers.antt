@@ -243,9 +243,9 @@ number_read names a found reads = by (number_of names a) refl found refl
 -- a number that has a name is below their number
 pub number_within : (names : Names) (a : AuthId) (n : ℕ) → number_of names a ≡ Some n → n < length names
 number_within names a n found = elim (cases_lt n (length names)) [
-      | inl within ↦ within
-      | inr past ↦ absurd (true≢false (sym (number_found names a n found) ∙ ap (is_name same_auth a) (past_end names n past)))
-    ]
+  | inl within ↦ within
+  | inr past ↦ absurd (true≢false (sym (number_found names a n found) ∙ ap (is_name same_auth a) (past_end names n past)))
+]
   where
     past_end : (xs : Names) (k : ℕ) → length xs ≤ k → name_at xs k ≡ None
     past_end [] k past = refl

@@ -79,3 +79,15 @@ none_goes old changed other none =
         never : (t : Bool) → (t && false) ≡ false
         never true = refl
         never false = refl
+
+-- the same holdings are the same state
+pub alike_state : (old : Tables) (holdings : Holdings) → HoldAlike old.holdings holdings → state_of (record old { holdings = holdings }) ≡ state_of old
+unfolding state_of
+alike_state old holdings alike =
+    same_state _ _ (by_kind (λ row. has_row (record old { holdings = holdings }) row ≡ has_row old row) (λ a. refl)
+    (λ row plain. has_row-holding (record old { holdings = holdings }) row plain ∙ alike_some (holding_of old.accounts.names row) ∙ sym (has_row-holding old row plain)))
+    (λ a. refl) refl refl
+  where
+    alike_some : (o : Option Holding) → holds_some holdings o ≡ holds_some old.holdings o
+    alike_some None = refl
+    alike_some (Some h) = alike h

@@ -11,22 +11,22 @@ use Rattle.priv_sets.proofs.Bits.{empty_from_none, zero_bits}
 bit_below : (set k : ℕ) → ((q : ℕ) × (has_bit set q ≡ true)) ⊎ ((q : ℕ) → q < k → has_bit set q ≡ false)
 bit_below set zero = inr (λ q below. absurd (omega arith))
 bit_below set (suc k) = elim (bit_below set k) [
-      | inl found ↦ inl found
-      | inr none ↦ by none (has_bit set k) refl
-    ]
+  | inl found ↦ inl found
+  | inr none ↦ by none (has_bit set k) refl
+]
   where
     by : ((q : ℕ) → q < k → has_bit set q ≡ false) → (t : Bool) → has_bit set k ≡ t → ((q : ℕ) × (has_bit set q ≡ true)) ⊎ ((q : ℕ) → q < suc k → has_bit set q ≡ false)
     by none true is = inl (k, is)
     by none false is = inr (λ q below. elim (cases_eq q k) [
-          | inl same ↦ ap (has_bit set) same ∙ is
-          | inr other ↦ none q (omega arith)
-        ])
+      | inl same ↦ ap (has_bit set) same ∙ is
+      | inr other ↦ none q (omega arith)
+    ])
 
 empty : (set : ℕ) → set < 2 ^ 32 → ((q : ℕ) → q < 32 → has_bit set q ≡ false) → set ≡ 0
 empty set fits none = empty_from_none set (λ q. elim (cases_lt q 32) [
-      | inl below ↦ none q below
-      | inr above ↦ no_bit set q fits above
-    ])
+  | inl below ↦ none q below
+  | inr above ↦ no_bit set q fits above
+])
 
 -- granted or restricted
 pub some_bit : (bits : Bits) → AreWithin bits → are_none bits ≡ false → (p : ℕ) × ((has_bit bits.granted p ≡ true) ⊎ (has_bit bits.restricted p ≡ true))

@@ -1,12 +1,14 @@
 -- What a write on a key does to what is held on objects, where names come and go.
-use Rattle.std.proofs.Common.{◌≡◌, ◌∙◌, refl, sym, ap, subst, ℕ, Bool, true, false, ◌<◌, ◌≤◌, ◌+◌, ◌-◌, ◌^◌, ◌==◌, ◌&&◌, List, length, get_or, Option, is_some, nat_lt, if◌then◌else◌, inl, inr, arith}
+use Rattle.std.proofs.Common.{◌≡◌, ◌∙◌, refl, sym, ap, subst, ℕ, Bool, true, false, ◌<◌, ◌≤◌, ◌+◌, ◌-◌, ◌/◌, ◌^◌, ◌==◌, ◌&&◌, List, length, get_or, min, Option, is_some, if◌then◌else◌, inl, inr, arith}
 use Rattle.std.proofs.lemmas.Bool.{cases_Bool, and_parts, eqb-true, lt-ltb, true_from_ne_false, true≢false}
+use Rattle.std.proofs.lemmas.Grind.{common_steps}
 use Rattle.std.proofs.lemmas.List.{length-map}
 use Rattle.std.proofs.lemmas.List.Sums.{sum_by-le}
+use Rattle.std.specs.List.{list_any}
 use Rattle.acl_names.specs.Text.{text_eq}
 use Rattle.held_bits.specs.declared.bits.Bits.{Bits}
-use Rattle.held_bits.specs.Bits.{are_none, no_bits, record_count}
-use Rattle.held_bits.specs.HeldBits.{Entry, SetsBits, bits_at}
+use Rattle.held_bits.specs.Bits.{are_none, record_count}
+use Rattle.held_bits.specs.HeldBits.{Entry, SetsBits, bits_at, is_on}
 use Rattle.held_bits.proofs.Writes.{none_is}
 use Rattle.numbered_names.specs.Numbered.{HasEachOnce, name_at}
 use Rattle.object_bits.specs.Keys.{is_key, key_uses, name_uses, on_object, on_objects, same_key}
@@ -16,7 +18,7 @@ use Rattle.object_bits.specs.Objects.{same_object}
 use Rattle.object_bits.specs.declared.key.Key.{Key}
 use Rattle.object_bits.specs.declared.key.Key.TheVariants as key
 use Rattle.object_bits.specs.declared.object.Object.{Object}
-use Rattle.object_bits.proofs.Objects.{HaveNames, bits_known, objects_kept, sets_objects}
+use Rattle.object_bits.proofs.Objects.{HaveNames, any_known, bits_known, known_key, objects_kept, sets_objects}
 use Rattle.object_bits.proofs.SameObjects.{equal_from_same_object}
 
 abbrev Names : Type 0
@@ -139,6 +141,10 @@ module _ (names : Names) (uses : List ℕ) (old new : List (Entry Key)) (given :
         none_used bits (key_uses n key) none,
       ))) set
 
+-- room that both tables keep is kept
+both_stay : (one other room after : ℕ) → one ≤ other → room ≤ after → min one (room / 3) ≤ min other (after / 3)
+both_stay one other room after more also = grind (arith, common_steps)
+
 -- something is set on a key whose names were taken
 module _ (names middle : Names) (uses middle_uses : List ℕ) (old new : List (Entry Key)) (given : List (Entry Object)) (holder : ℕ) (object : Object)
     (key : Key) (bits : Bits) (seen : on_objects names old ≡ given) (counted : IsCounted names uses) (also : IsCounted middle middle_uses)
@@ -155,6 +161,21 @@ module _ (names middle : Names) (uses middle_uses : List ℕ) (old new : List (E
 
   stands : (n : ℕ) → 0 < name_uses old n → name_at middle n ≡ name_at names n
   stands n used = stood n ((kept_names names uses old counted kept).named n used)
+
+  -- where something is held on the object, it is on its key, whose names stood before
+  pub room_stays : (one other room after_room : ℕ) → (list_any (is_on same_key key) old ≡ true → one ≤ other) →
+      ((k : Key) → is_key names object k ≡ true → room ≤ after_room) → list_any (is_on same_object object) given ≡ true →
+      min one (room / 3) ≤ min other (after_room / 3)
+  room_stays one other room after_room known stays held =
+      let found =
+      known_key names old (kept_names names uses old counted kept) object
+      (ap (λ (es : List (Entry Object)). list_any (is_on same_object object) es) seen ∙ held) in
+      let more : one ≤ other =
+      known
+      (sym (any_known middle once old old_named object key is)
+      ∙ ap (λ (es : List (Entry Object)). list_any (is_on same_object object) es) (objects_kept names middle old stands ∙ seen) ∙ held) in
+      let also : room ≤ after_room = stays found.0 found.1 in
+      both_stay one other room after_room more also
 
   -- where nothing was held, the names are kept
   pub added : IsMoved given (on_objects middle new) holder object bits

@@ -1,12 +1,13 @@
 -- Objects by the numbers of their names.
-use Rattle.std.proofs.Common.{◌≡◌, ◌∙◌, refl, sym, ap, ℕ, Bool, true, false, cond, ◌<◌, ◌≤◌, ◌+◌, ◌==◌, ◌&&◌, List, [], ◌∷◌, length, map, Option, None, Some, is_some, if◌then◌else◌, ◌⊎◌, inl, inr, arith}
+use Rattle.std.proofs.Common.{◌≡◌, ◌∙◌, refl, sym, ap, ℕ, Bool, true, false, ◌<◌, ◌+◌, ◌==◌, ◌&&◌, ◌||◌, List, [], ◌∷◌, Option, None, Some, is_some, if◌then◌else◌, ◌⊎◌, inl, inr, arith}
 use Rattle.std.proofs.lemmas.Bool.{cases_Bool, eq-eqb, eqb-true, and_from, and_parts, and_left, and_right, false_from_ne_true, true≢false}
 use Rattle.std.proofs.lemmas.List.Sums.{sum_by-cons}
-use Rattle.acl_names.proofs.SameAuth.{equal_from_text_eq, text_eq_itself}
+use Rattle.std.specs.List.{list_any}
+use Rattle.acl_names.proofs.SameAuth.{equal_from_text_eq}
 use Rattle.acl_names.specs.Text.{text_eq}
 use Rattle.held_bits.specs.declared.bits.Bits.{Bits}
 use Rattle.held_bits.specs.Bits.{no_bits}
-use Rattle.held_bits.specs.HeldBits.{Entry, SetsBits, bits_at, is_entry}
+use Rattle.held_bits.specs.HeldBits.{Entry, SetsBits, bits_at, is_entry, is_on}
 use Rattle.held_bits.proofs.Entries.{find_name}
 use Rattle.numbered_names.specs.Numbered.{HasEachOnce, IsNew, is_name, name_at}
 use Rattle.object_bits.specs.Keys.{is_key, key_uses, name_or_empty, name_uses, object_of, on_object, on_objects, same_key}
@@ -112,6 +113,21 @@ module _ (names : Names) where
       last_or_rest x m (one_if_same x n) (name_stands t m parts.1)
       (λ more. last_or_rest x n 0 (name_stands s n parts.0) (λ none. absurd (omega (arith, none))) (omega (arith, more))) used
 
+  -- a column that has a key has three numbers
+  pub column_numbers : (s t c : List ℕ) (k : Key) → is_key names (Column s t c) k ≡ true →
+      (n : ℕ) × (m : ℕ) × (x : ℕ) × (name_at names n ≡ Some s) × (name_at names m ≡ Some t) × (name_at names x ≡ Some c)
+  column_numbers s t c (key.Column n m x) is =
+      let outer = and_parts (is_name text_eq s (name_at names n) && is_name text_eq t (name_at names m)) (is_name text_eq c (name_at names x)) is in
+      let inner = and_parts (is_name text_eq s (name_at names n)) (is_name text_eq t (name_at names m)) outer.0 in (
+        n,
+        m,
+        x,
+        is_some_name s (name_at names n) inner.0,
+        is_some_name t (name_at names m) inner.1,
+        is_some_name c (name_at names x) outer.1,
+      )
+  column_numbers s t c _ is = absurd (true≢false (sym is))
+
   -- and each of its numbers has a name
   pub has_names : (o : Object) (k : Key) → is_key names o k ≡ true → HasNames names k
   has_names o k is = record { named = λ n used. by o k n is used }
@@ -198,6 +214,23 @@ module _ (names : Names) where
       (and_right (h == e.holder) (same_object o (object_of names e.thing)) (same_by_key names o e.thing (first_named names e es all) ∙ new e.thing))
       ∙ bits_new es (rest_named names e es all) h o new
 
+  none_on : (es : List (Entry Key)) → HaveNames names es → (o : Object) → ((k : Key) → is_key names o k ≡ false) →
+      list_any (is_on same_object o) (on_objects names es) ≡ false
+  none_on [] all o new = refl
+  none_on (e ∷ es) all o new =
+      ap (λ (b : Bool). b || list_any (is_on same_object o) (on_objects names es))
+      (same_by_key names o e.thing (first_named names e es all) ∙ new e.thing)
+      ∙ none_on es (rest_named names e es all) o new
+
+  -- an object that something is held on has a key
+  pub known_key : (es : List (Entry Key)) → HaveNames names es → (o : Object) → list_any (is_on same_object o) (on_objects names es) ≡ true →
+      (k : Key) × (is_key names o k ≡ true)
+  known_key es all o held =
+      elim (find_key o) [
+        | inl there ↦ there
+        | inr new ↦ absurd (true≢false (sym held ∙ none_on es all o new))
+      ]
+
   module _ (once : HasEachOnce text_eq names) where
     -- a name has one number
     one_number : (name : List ℕ) (n m : ℕ) → is_name text_eq name (name_at names n) ≡ true → is_name text_eq name (name_at names m) ≡ (n == m)
@@ -248,6 +281,15 @@ module _ (names : Names) where
         ap (λ (b : Bool). if (h == e.holder) && b then e.bits else bits_at same_object (on_objects names es) h o)
         (same_by_key names o e.thing (first_named names e es all) ∙ one_key o k e.thing is)
         ∙ ap (λ (b : Bits). if is_entry same_key h k e then e.bits else b) (bits_known es (rest_named names e es all) h o k is)
+
+    -- something is held on an object where it is on its key
+    pub any_known : (es : List (Entry Key)) → HaveNames names es → (o : Object) (k : Key) → is_key names o k ≡ true →
+        list_any (is_on same_object o) (on_objects names es) ≡ list_any (is_on same_key k) es
+    any_known [] all o k is = refl
+    any_known (e ∷ es) all o k is =
+        ap (λ (b : Bool). b || list_any (is_on same_object o) (on_objects names es))
+        (same_by_key names o e.thing (first_named names e es all) ∙ one_key o k e.thing is)
+        ∙ ap (λ (b : Bool). same_key k e.thing || b) (any_known es (rest_named names e es all) o k is)
 
     -- another object is the same where the key is its key
     same_known : (o x : Object) (k : Key) → is_key names o k ≡ true → same_object x o ≡ is_key names x k

@@ -1,6 +1,6 @@
 -- Entries on objects are as sound as entries on keys, and stand at the same places.
-use Rattle.std.proofs.Common.{◌≡◌, ◌∙◌, refl, sym, ap, ℕ, zero, suc, Bool, true, false, ◌<◌, ◌≤◌, ◌==◌, ◌&&◌, List, [], ◌∷◌, length, get_or, slice_get, map, Option, None, Some, is_some, arith}
-use Rattle.std.proofs.lemmas.Bool.{and_from, eq-eqb, true≢false}
+use Rattle.std.proofs.Common.{◌≡◌, ◌∙◌, refl, sym, ap, ℕ, zero, suc, Bool, true, false, ◌<◌, ◌==◌, ◌&&◌, List, [], ◌∷◌, length, get_or, slice_get, Option, Some, is_some, arith}
+use Rattle.std.proofs.lemmas.Bool.{and_from}
 use Rattle.std.proofs.lemmas.List.{get_or-map, length-map}
 use Rattle.std.proofs.lemmas.Option.{get_or_from_slice_get, same_Some, slice_get_within}
 use Rattle.std.specs.List.{All}
@@ -11,9 +11,8 @@ use Rattle.held_bits.specs.Bits.{are_none, no_bits}
 use Rattle.held_bits.specs.HeldBits.{Entry, IsFirstOf, IsSound, bits_at, is_entry}
 use Rattle.held_bits.proofs.Readings.{bits_of_entry}
 use Rattle.numbered_names.specs.Numbered.{HasEachOnce, name_at}
-use Rattle.object_bits.specs.Keys.{has_names, is_key, key_uses, object_of, on_object, on_objects, same_key}
+use Rattle.object_bits.specs.Keys.{has_names, object_of, on_object, on_objects, same_key}
 use Rattle.object_bits.specs.Kept.{only_granted}
-use Rattle.object_bits.specs.Names.{one_if_same}
 use Rattle.object_bits.specs.Objects.{same_object}
 use Rattle.object_bits.specs.declared.key.Key.{Key}
 use Rattle.object_bits.specs.declared.key.Key.TheVariants as key

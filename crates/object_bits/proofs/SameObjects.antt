@@ -1,5 +1,5 @@
 -- Objects are the same exactly where they are equal.
-use Rattle.std.proofs.Common.{◌≡◌, ◌∙◌, ◌&&◌, Bool, true, List, ℕ, refl, ap}
+use Rattle.std.proofs.Common.{◌≡◌, ◌∙◌, ◌&&◌, true, List, ℕ, refl, ap}
 use Rattle.std.proofs.lemmas.Bool.{and_parts}
 use Rattle.acl_names.proofs.SameAuth.{equal_from_text_eq, text_eq_itself}
 use Rattle.acl_names.specs.Text.{text_eq}

@@ -1,5 +1,5 @@
 -- Objects by the numbers of their names.
-use Rattle.std.specs.Prelude.{◌≡◌, ℕ, Bool, false, ◌+◌, ◌==◌, ◌&&◌, ◌<◌, List, [], Option, None, Some, map, sum_by, is_some}
+use Rattle.std.specs.Prelude.{ℕ, Bool, false, ◌+◌, ◌==◌, ◌&&◌, List, [], Option, None, Some, map, sum_by, is_some}
 use Rattle.acl_names.specs.Text.{text_eq}
 use Rattle.held_bits.specs.HeldBits.{Entry}
 use Rattle.numbered_names.specs.Numbered.{is_name, name_at}

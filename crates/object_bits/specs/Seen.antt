@@ -1,5 +1,4 @@
 -- Objects that references name.
-use Rattle.std.specs.Prelude.{ℕ}
 use Rattle.object_bits.specs.declared.object.Object.{Object}
 use Rattle.object_bits.specs.declared.object.Object.TheVariants.{Table, Column, Function, Procedure}
 use Rattle.object_bits.specs.declared.object_ref.ObjectRef.{ObjectRef}

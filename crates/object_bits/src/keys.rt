@@ -93,6 +93,8 @@ fn take_two(names: &mut CountedNames, one: Ident, other: Ident) -> (u32, u32)
     ensures stood { (n : ℕ) → IsSome (name_at names.old.names n) →
         name_at names.new.names n ≡ name_at names.old.names n }
     ensures room { names.old.room ≤ names.new.room + 2 }
+    ensures known { (n m : ℕ) → name_at names.old.names n ≡ Some one → name_at names.old.names m ≡ Some other →
+        names.old.room ≤ names.new.room }
 {
     let number = names.take(one);
     (number, names.take(other))
@@ -107,6 +109,7 @@ pub fn take_key(names: &mut CountedNames, object: Object) -> Key
     ensures stood { (n : ℕ) → IsSome (name_at names.old.names n) →
         name_at names.new.names n ≡ name_at names.old.names n }
     ensures room { names.old.room ≤ names.new.room + 3 }
+    ensures known { (key : Key) → is_key names.old.names object key ≡ true → names.old.room ≤ names.new.room }
 {
     match object {
         Object::Table(schema, table) => {

@@ -82,6 +82,7 @@ impl CountedNames {
         ensures stood { (n : ℕ) → IsSome (name_at self.old.names n) →
             name_at self.new.names n ≡ name_at self.old.names n }
         ensures room { self.old.room ≤ self.new.room + 1 }
+        ensures known { (n : ℕ) → name_at self.old.names n ≡ Some name → self.old.room ≤ self.new.room }
     {
         let number = number_for(&mut self.names, &mut self.uses, name);
         self.uses[number as usize] += 1;
@@ -136,6 +137,8 @@ fn number_for(names: &mut NumberedNames<Ident>, uses: &mut Vec<u64>, name: Ident
     ensures others { (n : ℕ) → n ≢ result → name_at names.new.names n ≡ name_at names.old.names n }
     ensures room { names.old.room ≤ names.new.room + 1 }
     ensures spare { vec_capacity uses.old - length uses.old.items ≤ vec_capacity uses.new - length uses.new.items + 1 }
+    ensures known { (n : ℕ) → name_at names.old.names n ≡ Some name → (names.old.room ≤ names.new.room) ×
+        (vec_capacity uses.old - length uses.old.items ≤ vec_capacity uses.new - length uses.new.items) }
 {
     if let Some(number) = names.number_of(&name) {
         return number;

@@ -1,6 +1,7 @@
-ghost use Rattle.std.specs.Prelude.{◌≡◌, ◌+◌, ◌<◌, ◌≤◌, ◌↔◌, false, [], Some, length, slice_get, All, IfNone, IfOk, IfSome, IsTrue, OnOk};
+ghost use Rattle.std.specs.Prelude.{◌≡◌, ◌+◌, ◌<◌, ◌≤◌, ◌↔◌, false, true, [], Some, length, slice_get, All, IfNone, IfOk, IfSome, IsTrue, OnOk};
+ghost use Rattle.std.specs.List.{list_any};
 ghost use Rattle.held_bits.specs.Bits.{are_none, record_count};
-ghost use Rattle.held_bits.specs.HeldBits.{bits_at, IsFirstOf, IsSound, SetsBits};
+ghost use Rattle.held_bits.specs.HeldBits.{bits_at, is_on, IsFirstOf, IsSound, SetsBits};
 ghost use Rattle.object_bits.specs.Kept.{only_granted};
 ghost use Rattle.object_bits.specs.Objects.{same_object};
 ghost use Rattle.object_bits.specs.Seen.{seen};
@@ -133,6 +134,8 @@ impl ObjectBits {
         ensures record_room { self.new.record_room + length self.new.entries ≡
             self.old.record_room + length self.old.entries }
         ensures thing_room { self.old.thing_room ≤ self.new.thing_room + 1 }
+        ensures known_thing { list_any (is_on same_object object) self.old.entries ≡ true →
+            self.old.thing_room ≤ self.new.thing_room }
     {
         if granted == 0 {
             self.change(holder, object.by_reference(), granted);

@@ -58,6 +58,20 @@ impl Graph {
         }
     }
 
+    /// How many edges there are.
+    pub fn len(&self) -> usize
+        ensures { result ≡ length self.now.links }
+    {
+        self.roles.len()
+    }
+
+    /// Whether there is no edge.
+    pub fn is_empty(&self) -> bool
+        ensures { IsTrue result ↔ (length self.now.links ≡ 0) }
+    {
+        self.len() == 0
+    }
+
     /// The same edges in memory of their own.
     pub fn copy(&self, alloc: Global) -> Result<Graph, AllocError>
         ensures { IfOk result (λ made. made.links ≡ self.now.links) }

@@ -34,7 +34,7 @@ returns-then-may_grant_role-clause-without c =
     let reads = c.may_grant_role.ensures ∙ ap (λ v. with_admin v.roles c.args.role c.args.to) (sym c.self.view_is) in
     let there = stands c.self.inside.roles c.args.role c.args.to c.may_grant_role.result c.if-may_grant_role.true reads in
     let ok = is_ok c.add_edge.result (λ loop. no_path c.self.inside.roles c.remove_edge.new.self c.args.role c.args.to there c.remove_edge.ensures.granted
-        c.has_no_loops.ensures (c.add_edge.ensures.refused.0 loop)) in
+    c.has_no_loops.ensures (c.add_edge.ensures.refused.0 loop)) in
     λ holding. admin_changes (λ x y. x && not y) and-true (the_view c.self.inside) c.add_edge.new.self c.args.role c.args.to
     (option_gone c.self.inside.roles c.remove_edge.new.self c.add_edge.new.self c.args.role c.args.to c.remove_edge.ensures.admin (c.add_edge.ensures.admin ok))
     (edge_again c.self.inside.roles c.remove_edge.new.self c.args.role c.args.to there c.remove_edge.ensures.granted c.add_edge.new.self (c.add_edge.ensures.granted ok)) holding
@@ -45,10 +45,10 @@ returns-then-may_grant_role-clause-room c =
     let reads = c.may_grant_role.ensures ∙ ap (λ v. with_admin v.roles c.args.role c.args.to) (sym c.self.view_is) in
     let there = stands c.self.inside.roles c.args.role c.args.to c.may_grant_role.result c.if-may_grant_role.true reads in
     let ok = is_ok c.add_edge.result (λ loop. no_path c.self.inside.roles c.remove_edge.new.self c.args.role c.args.to there c.remove_edge.ensures.granted
-        c.has_no_loops.ensures (c.add_edge.ensures.refused.0 loop)) in
+    c.has_no_loops.ensures (c.add_edge.ensures.refused.0 loop)) in
     let more = one_more c.remove_edge.result c.self.inside.roles.room c.remove_edge.new.self.room (c.remove_edge.ensures.stood ∙ there) c.remove_edge.ensures.room in
     let less = none_more (granted c.remove_edge.new.self c.args.role c.args.to) c.remove_edge.new.self.room c.add_edge.new.self.room
-        (gone c.self.inside.roles c.remove_edge.new.self c.args.role c.args.to there c.remove_edge.ensures.granted) (c.add_edge.ensures.room ok) in
+    (gone c.self.inside.roles c.remove_edge.new.self c.args.role c.args.to there c.remove_edge.ensures.granted) (c.add_edge.ensures.room ok) in
     let same : c.self.inside.roles.room ≤ c.add_edge.new.self.room + 0 = omega (arith, more, less) in
     subst (λ v. LosesAtMost 0 v (the_view (record c.self.inside { roles = c.add_edge.new.self }))) c.self.view_is
     (record { accounts = omega arith; pairs = omega arith; schemas = omega arith; object_pairs = omega arith; objects = omega arith; roles = same; default_pairs = omega arith; default_roles = omega arith })

@@ -1,5 +1,5 @@
 use Rattle.std.proofs.Common.{◌≡◌, ◌∙◌, ◌==◌, ap, refl, sym, true, false, List}
-use Rattle.std.proofs.lemmas.Bool.{and_from, and_left, eq-eqb, ne_eqb}
+use Rattle.std.proofs.lemmas.Bool.{and_from, eq-eqb}
 use Rattle.held_bits.specs.declared.bits.Bits.{Bits}
 use Rattle.held_bits.specs.Bits.{are_none}
 use Rattle.held_bits.specs.HeldBits.{Entry, bits_at}

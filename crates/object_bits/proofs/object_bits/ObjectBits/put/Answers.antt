@@ -1,9 +1,9 @@
-use Rattle.std.proofs.Common.{◌≡◌, ◌∙◌, ap, sym, true, false}
+use Rattle.std.proofs.Common.{◌≡◌, ◌∙◌, ◌≤◌, ◌/◌, ap, min, subst, sym, false, arith}
 use Rattle.held_bits.specs.declared.bits.Bits.{Bits}
 use Rattle.held_bits.specs.Bits.{are_none}
 use Rattle.object_bits.specs.Keys.{on_objects}
 use Rattle.object_bits.specs.Kept.{only_granted}
-use Rattle.object_bits.proofs.Moves.{IsMoved, added, few_uses, replaced}
+use Rattle.object_bits.proofs.Moves.{IsMoved, added, few_uses, replaced, room_stays}
 use Rattle.object_bits.proofs.object_bits.ObjectBits.put.Goals as goal
 
 pub take_key-key-requires-clause-few : goal.take_key-key-requires-clause-few
@@ -46,3 +46,26 @@ returns-else-not-are_none-clause-bits c = (first c).sets
 
 pub returns-else-not-are_none-clause-count : goal.returns-else-not-are_none-clause-count
 returns-else-not-are_none-clause-count c = (first c).count
+
+pub returns-then-not-are_none-clause-known_thing : goal.returns-then-not-are_none-clause-known_thing
+returns-then-not-are_none-clause-known_thing c = λ held.
+    let s = c.self.inside in
+    let middle = c.take_key-key.new.names in
+    let after = c.give_back_key.new.names in
+    subst (λ n. n ≤ min c.set_bits.new.bits.thing_room (after.room / 3)) (ap (λ v. v.thing_room) c.self.view_is)
+    (room_stays s.names.names middle.names s.names.uses middle.uses s.bits.entries c.set_bits.new.bits.entries c.args.self.now.entries c.args.holder
+    c.args.object c.take_key-key.result (only_granted c.args.granted) (ap (λ v. v.entries) c.self.view_is) c.are_counted.ensures.counted
+    c.are_counted-else-granted-eq0.ensures.counted c.are_counted-else-granted-eq0.ensures.once c.self.invariant c.take_key-key.ensures.key
+    c.take_key-key.ensures.uses c.take_key-key.ensures.stood c.set_bits.ensures.set s.bits.thing_room c.set_bits.new.bits.thing_room s.names.room after.room
+    c.set_bits.ensures.known_thing (λ k is. omega (arith, c.take_key-key.ensures.known k is, c.give_back_key.ensures.room)) held)
+
+pub returns-else-not-are_none-clause-known_thing : goal.returns-else-not-are_none-clause-known_thing
+returns-else-not-are_none-clause-known_thing c = λ held.
+    let s = c.self.inside in
+    let middle = c.take_key-key.new.names in
+    subst (λ n. n ≤ min c.set_bits.new.bits.thing_room (middle.room / 3)) (ap (λ v. v.thing_room) c.self.view_is)
+    (room_stays s.names.names middle.names s.names.uses middle.uses s.bits.entries c.set_bits.new.bits.entries c.args.self.now.entries c.args.holder
+    c.args.object c.take_key-key.result (only_granted c.args.granted) (ap (λ v. v.entries) c.self.view_is) c.are_counted.ensures.counted
+    c.are_counted-else-granted-eq0.ensures.counted c.are_counted-else-granted-eq0.ensures.once c.self.invariant c.take_key-key.ensures.key
+    c.take_key-key.ensures.uses c.take_key-key.ensures.stood c.set_bits.ensures.set s.bits.thing_room c.set_bits.new.bits.thing_room s.names.room middle.room
+    c.set_bits.ensures.known_thing c.take_key-key.ensures.known held)

@@ -1,0 +1,5 @@
+pub mod Additions
+pub mod RolesSaid
+pub mod Entries
+pub mod Readings
+pub mod Sets

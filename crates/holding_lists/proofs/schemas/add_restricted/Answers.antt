@@ -1,0 +1,24 @@
+use Rattle.std.proofs.Common.{◌∙◌, ap, sym, List, ℕ}
+use Rattle.account_holdings.specs.declared.holding.Holding.TheVariants.{Restricted}
+use Rattle.holding_lists.specs.Additions.{is_restricted}
+use Rattle.holding_lists.proofs.Sets.{all_bits, bit_pushed, bit_skipped, is_limit}
+use Rattle.holding_lists.proofs.schemas.add_restricted.Goals as goal
+use Rattle.holding_lists.proofs.schemas.add_restricted.Goals.{then-has_bit+in_ok-copy+in_ok-push, else-has_bit}
+
+pub loop-privilege-preserved : goal.loop-privilege-preserved
+loop-privilege-preserved c =
+    let n = c.loop-privilege.privilege in
+    elim c.if-has_bit.branch [
+      | then-has_bit+in_ok-copy+in_ok-push w ↦
+          bit_pushed (is_restricted c.args.account c.args.schema.now) c.args.set n (Restricted c.args.account c.args.schema.now n) _ c.args.list.now.items c.loop-privilege.list.items c.if-has_bit.list.items
+          (is_limit c.args.account c.args.schema.now n) (ap (λ (s : List ℕ). Restricted c.args.account s n) w.in_ok-copy.ensures)
+          (ap (λ v. v.items) w.list-is ∙ w.in_ok-push.ensures.items) (sym c.has_bit.ensures ∙ w.if-has_bit.true) c.loop-privilege.invariant
+      | else-has_bit w ↦
+          bit_skipped (is_restricted c.args.account c.args.schema.now) c.args.set n c.args.list.now.items c.loop-privilege.list.items c.if-has_bit.list.items
+          (ap (λ v. v.items) w.list-is) (sym c.has_bit.ensures ∙ w.if-has_bit.false) c.loop-privilege.invariant
+    ]
+
+pub returns : goal.returns
+returns c =
+    all_bits (is_restricted c.args.account c.args.schema.now) c.args.set c.loop-privilege.privilege c.args.list.now.items c.loop-privilege.list.items c.ranges.set.fits
+    c.loop-privilege-test.false c.loop-privilege.invariant

@@ -1,0 +1,15 @@
+pub mod AccountSteps
+pub mod Alike
+pub mod Coming
+pub mod Going
+pub mod HeldRows
+pub mod Listed
+pub mod Members
+pub mod Openings
+pub mod Privileges
+pub mod Puts
+pub mod RoomLeft
+pub mod RowLists
+pub mod RowOrder
+pub mod RowsNaming
+pub mod States

@@ -1,0 +1,9 @@
+pub mod Changes
+pub mod Conditions
+pub mod Held
+pub mod Layers
+pub mod Lists
+pub mod Opening
+pub mod Order
+pub mod Rooms
+pub mod Tables
