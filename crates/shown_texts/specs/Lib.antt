@@ -1,3 +1,5 @@
 pub mod Examples
-pub mod LineTokens
 pub mod Lines
+pub mod LineTokens
+pub mod Names
+pub mod ReadLines
