@@ -25,28 +25,28 @@ abbrev pub was : State → Option Row → Bool
 was state None = false
 was state (Some row) = state.rows row
 
--- ---- users that are not blank
+-- ---- a test that new names pass
+
+new_pair : (test : AuthId → Bool) (old new m name x : AuthId) → test new ≡ true → (test m ≡ true → test name ≡ true) → test x ≡ true
+    → (t u : Bool) → same_auth m new ≡ t → same_auth m old ≡ u → cond t (Some old) (cond u None (Some m)) ≡ Some x → test name ≡ true
+new_pair test old new m name x passes more known true u same other is = more (ap test (equal_from_same_auth m new same) ∙ passes)
+new_pair test old new m name x passes more known false true same other is = cc
+new_pair test old new m name x passes more known false false same other is = let equal : m ≡ x = cc in more (ap test equal ∙ known)
+
+new_step : (test : AuthId → Bool) (old new name x : AuthId) (o : Option AuthId) → test new ≡ true → ((m : AuthId) → o ≡ Some m → test m ≡ true → test name ≡ true)
+    → test x ≡ true → then_before old new o ≡ Some x → test name ≡ true
+new_step test old new name x None passes more known is = cc
+new_step test old new name x (Some m) passes more known is = new_pair test old new m name x passes (more m refl) known (same_auth m new) (same_auth m old) refl refl is
+
+-- a name passes whose former name did
+pub passes_kept : (test : AuthId → Bool) (pairs : Pairs) (name x : AuthId) → list_all (λ pair. test pair.1) pairs ≡ true → test x ≡ true → name_before pairs name ≡ Some x → test name ≡ true
+passes_kept test [] name x all known is = let equal : name ≡ x = cc in ap test equal ∙ known
+passes_kept test (pair ∷ pairs) name x all known is =
+    let parts = and_parts (test pair.1) (list_all (λ p. test p.1) pairs) all in
+    new_step test pair.0 pair.1 name x (name_before pairs name) parts.0 (λ m was_m is_m. passes_kept test pairs name m parts.1 is_m was_m) known is
 
 abbrev all_named : Pairs → Bool
 all_named pairs = list_all (λ pair. is_named pair.1) pairs
-
-named_pair : (old new m name x : AuthId) → is_named new ≡ true → (is_named m ≡ true → is_named name ≡ true) → is_named x ≡ true
-    → (t u : Bool) → same_auth m new ≡ t → same_auth m old ≡ u → cond t (Some old) (cond u None (Some m)) ≡ Some x → is_named name ≡ true
-named_pair old new m name x named more known true u same other is = more (ap is_named (equal_from_same_auth m new same) ∙ named)
-named_pair old new m name x named more known false true same other is = cc
-named_pair old new m name x named more known false false same other is = let equal : m ≡ x = cc in more (ap is_named equal ∙ known)
-
-named_step : (old new name x : AuthId) (o : Option AuthId) → is_named new ≡ true → ((m : AuthId) → o ≡ Some m → is_named m ≡ true → is_named name ≡ true)
-    → is_named x ≡ true → then_before old new o ≡ Some x → is_named name ≡ true
-named_step old new name x None named more known is = cc
-named_step old new name x (Some m) named more known is = named_pair old new m name x named (more m refl) known (same_auth m new) (same_auth m old) refl refl is
-
--- a name whose former name is not blank is not blank
-named_kept : (pairs : Pairs) (name x : AuthId) → all_named pairs ≡ true → is_named x ≡ true → name_before pairs name ≡ Some x → is_named name ≡ true
-named_kept [] name x all known is = let equal : name ≡ x = cc in ap is_named equal ∙ known
-named_kept (pair ∷ pairs) name x all known is =
-    let parts = and_parts (is_named pair.1) (all_named pairs) all in
-    named_step pair.0 pair.1 name x (name_before pairs name) parts.0 (λ m was_m is_m. named_kept pairs name m parts.1 is_m was_m) known is
 
 renamed_legal : (pairs : Pairs) → is_statement (RenameUser pairs) ≡ true → all_named pairs ≡ true
 unfolding is_statement
@@ -72,7 +72,7 @@ module _ (pairs : Pairs) (state : State) (sound : IsSound state) where
   edge_rules role to (Some x) None named first second stood = never stood
   edge_rules role to (Some x) (Some y) named first second stood =
       let parts = and_parts (is_named x) (not (same_auth x y)) (sound.rules (Edge x y) stood) in
-      and_from (is_named role) (not (same_auth role to)) (named_kept pairs role x named parts.0 first) (apart role to x y first second parts.1 (same_auth role to) refl)
+      and_from (is_named role) (not (same_auth role to)) (passes_kept is_named pairs role x named parts.0 first) (apart role to x y first second parts.1 (same_auth role to) refl)
 
   renamed_rules : (row : Row) → all_named pairs ≡ true → stood_before (RenameUser pairs) state row ≡ true → keeps_rules row ≡ true
   renamed_rules (Account a) named stood = refl

@@ -135,7 +135,7 @@ module _ (state : State) where
   two_named x y a first second either =
       elim (or_cases (same_auth a x) (same_auth a y) either) [ inl same ↦ one_named x a first same | inr same ↦ one_named y a second same ]
 
-  given_stands : HasItsAccounts state → (limits : List Limit) (s : Statement) → first_fault state s ≡ None → (row : Row) (a : AuthId) → gives limits s state row ≡ true
+  pub given_stands : HasItsAccounts state → (limits : List Limit) (s : Statement) → first_fault state s ≡ None → (row : Row) (a : AuthId) → gives limits s state row ≡ true
       → IsNamed a row → (creates s a ≡ true) ⊎ (stands state a ≡ true)
   given_stands accounts limits s none (Account x) a given named = inl (ap (creates s) (equal_from_same_auth a x named) ∙ given)
   given_stands accounts limits s none (Global x p) a given named = inr (one_named x a (granted_stands s on.Global x p none given) named)

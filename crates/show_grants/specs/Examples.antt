@@ -150,3 +150,37 @@ example-no_admin_option = refl
 example-admin_option_again : (given_again roles_granted role_rows).rows (Admin writer ann) ≡ true
 unfolding carried lines_of in_order put_in bits_below becomes changed holds
 example-admin_option_again = refl
+
+-- ---- why the lines stand in this order
+
+abbrev everywhere : Statement
+everywhere = Grant (plain_list (λ p. p == 1)) on.Global (ann ∷ []) false
+
+abbrev not_on_world : Statement
+not_on_world = Revoke (plain_list (λ p. p == 1)) (on.Schema world) (ann ∷ [])
+
+abbrev on_world : Statement
+on_world = Grant (plain_list (λ p. p == 1)) (on.Schema world) (ann ∷ []) false
+
+-- a privilege has to be held everywhere before it is restricted
+example-restricted_behind : (carried (everywhere ∷ not_on_world ∷ []) nothing_held).rows (Restriction ann 1 world) ≡ true
+unfolding carried bits_below becomes changed holds
+example-restricted_behind = refl
+
+example-not_restricted_before : (carried (not_on_world ∷ everywhere ∷ []) nothing_held).rows (Restriction ann 1 world) ≡ false
+unfolding carried bits_below becomes changed holds
+example-not_restricted_before = refl
+
+-- a grant on `*.*` lifts a restriction that stands before it
+example-lifted_everywhere : (carried (everywhere ∷ not_on_world ∷ everywhere ∷ []) nothing_held).rows (Restriction ann 1 world) ≡ false
+unfolding carried bits_below becomes changed holds
+example-lifted_everywhere = refl
+
+-- a grant on the schema lifts the restriction, and gives no row: so both never stand beside each other
+example-lifted_on_world : (carried (everywhere ∷ not_on_world ∷ on_world ∷ []) nothing_held).rows (Restriction ann 1 world) ≡ false
+unfolding carried bits_below becomes changed holds
+example-lifted_on_world = refl
+
+example-no_row_for_it : (carried (everywhere ∷ not_on_world ∷ on_world ∷ []) nothing_held).rows (Schema ann world 1) ≡ false
+unfolding carried bits_below becomes changed holds
+example-no_row_for_it = refl

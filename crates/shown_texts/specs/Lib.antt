@@ -1,0 +1,5 @@
+pub mod Examples
+pub mod Lines
+pub mod LineTokens
+pub mod Names
+pub mod ReadLines
