@@ -1,4 +1,5 @@
 pub mod AccountChanges
+pub mod Basis
 pub mod Counting
 pub mod Counts
 pub mod Entries

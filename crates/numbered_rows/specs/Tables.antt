@@ -3,7 +3,9 @@ use Rattle.std.specs.Prelude.{◌≡◌, ◌==◌, ◌≤◌, length, ℕ, Bool,
 use Rattle.std.specs.List.{slice_index_or}
 use Rattle.std.specs.Option.{option_map}
 use Rattle.account_holdings.specs.Holdings.{Holdings, holds, names_number}
+use Rattle.account_holdings.specs.declared.globals.GlobalKind.TheVariants.{Dynamic, Grantable}
 use Rattle.account_holdings.specs.declared.holding.Holding.{Holding}
+use Rattle.account_holdings.specs.declared.holding.Holding.TheVariants.{OnAll}
 use Rattle.acl_model.specs.Accounts.{new_account}
 use Rattle.acl_model.specs.State.{State}
 use Rattle.acl_model.specs.declared.account_data.AccountData.{AccountData}
@@ -61,10 +63,17 @@ ChangesDataOnly old new number value = (other : ℕ) → known_at new other ≡ 
 abbrev pub IsNumberedWell : List (Option AuthId) → Holdings → Type 0
 IsNumberedWell names holdings = (number : ℕ) → name_at names number ≡ None → IsUnused holdings number
 
--- tables in which names differ, each account has its data and its place among the holdings, and whoever is named stands
+-- who may grant a dynamic privilege holds it
+abbrev pub HaveBasis : Holdings → Type 0
+HaveBasis holdings =
+    (number privilege : ℕ) → IsTrue (holds holdings (OnAll Grantable number privilege)) → IsTrue (holds holdings (OnAll Dynamic number privilege))
+
+-- tables in which names differ, each account has its data and its place among the holdings, whoever is named stands, and who may
+-- grant a privilege holds it
 pub record AreSound (tables : Tables) : Type 0 where
   pub once : HasEachOnce same_auth tables.accounts.names
   pub few : length tables.accounts.names ≤ 4096
   pub known : length tables.account_data ≡ length tables.accounts.names
   pub counted : length tables.holdings.globals ≡ length tables.accounts.names
   pub well : IsNumberedWell tables.accounts.names tables.holdings
+  pub basis : HaveBasis tables.holdings

@@ -18,6 +18,7 @@ use Rattle.acl_names.specs.AuthId.{same_auth}
 use Rattle.acl_names.specs.declared.auth.AuthId.{AuthId}
 use Rattle.numbered_names.specs.Numbered.{ChangesOnly, HasEachOnce, IsNew, Numbered, is_name, name_at}
 use Rattle.numbered_rows.proofs.AccountChanges.{account_comes, account_goes, account_renamed, data_changes}
+use Rattle.numbered_rows.proofs.Basis.{basis_alike}
 use Rattle.numbered_rows.proofs.Counts.{over_accounts}
 use Rattle.numbered_rows.proofs.Matching.{or_last}
 use Rattle.numbered_rows.proofs.Numbers.{Names, named_at, named_itself, number_none, once_added, once_removed, once_renamed}
@@ -108,6 +109,7 @@ module _ (old new : Tables) (sound : AreSound old) (a : AuthId) (number : ℕ) (
     known = data_len ∙ ap (λ n. max n (number + 1)) sound.known ∙ sym len;
     counted = globals_len ∙ ap (λ n. max n (number + 1)) sound.counted ∙ sym len;
     well = well_named old.accounts.names new.accounts.names number new.holdings a only (well_alike old.accounts.names old.holdings new.holdings alike sound.well);
+    basis = basis_alike old.holdings new.holdings alike sound.basis;
   }
 
   came_state : ChangesDataOnly old.account_data new.account_data number new_account → new.mandatory ≡ old.mandatory → new.activate_all ≡ old.activate_all
@@ -163,6 +165,7 @@ module _ (old now : Tables) (seen : old ≡ now) (sound : AreSound old) where
       known = sound.known ∙ sym len;
       counted = sound.counted ∙ sym len;
       well = well_removed old.accounts.names accounts.names number old.holdings only gone_unused sound.well;
+      basis = sound.basis;
     }
 
     pub gone_state : state_of (record old { accounts = accounts }) ≡ without_row (Account a) (state_of now)
@@ -189,6 +192,7 @@ module _ (old now : Tables) (seen : old ≡ now) (sound : AreSound old) where
         known = sound.known ∙ sym len;
         counted = sound.counted ∙ sym len;
         well = well_named old.accounts.names accounts.names number old.holdings c only sound.well;
+        basis = sound.basis;
       }
 
       pub renamed_state : state_of (record old { accounts = accounts }) ≡ renamed a c (state_of now)

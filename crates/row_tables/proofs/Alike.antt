@@ -10,6 +10,7 @@ use Rattle.acl_model.specs.declared.row.Row.{Row}
 use Rattle.acl_model.specs.declared.row.Row.TheVariants.{Account}
 use Rattle.acl_names.specs.AuthId.{same_auth}
 use Rattle.acl_stmt.specs.declared.refusal.Full.{Full}
+use Rattle.numbered_rows.proofs.Basis.{basis_alike}
 use Rattle.numbered_rows.proofs.Counts.{over_accounts}
 use Rattle.numbered_rows.proofs.Standing.{well_alike}
 use Rattle.numbered_rows.proofs.States.{by_kind, has_row-holding, same_state}
@@ -38,6 +39,7 @@ module _ (old new : Tables) (names : new.accounts.names ≡ old.accounts.names) 
     known = ap length known ∙ sound.known ∙ sym (ap length names);
     counted = counted ∙ sound.counted ∙ sym (ap length names);
     well = subst (λ ns. IsNumberedWell ns new.holdings) (sym names) (well_alike old.accounts.names old.holdings new.holdings alike sound.well);
+    basis = basis_alike old.holdings new.holdings alike sound.basis;
   }
 
 -- what is told of the tables is told of what they are seen as

@@ -11,6 +11,7 @@ use Rattle.acl_model.specs.declared.row.Row.{Row}
 use Rattle.acl_model.specs.declared.row.Row.TheVariants.{Account, Global, Dynamic, DynamicGrant, Schema, Table, Column, Function, Procedure, Edge, Admin, Default, Restriction}
 use Rattle.acl_names.specs.declared.auth.AuthId.{AuthId}
 use Rattle.row_tables.specs.Held.{IsReadyHeld}
+use Rattle.numbered_rows.proofs.Basis.{basis_alike, basis_comes, basis_goes}
 use Rattle.numbered_rows.proofs.Matching.{name_of, name_or_root}
 use Rattle.numbered_rows.proofs.Numbers.{Names, named_at}
 use Rattle.numbered_rows.proofs.RowChanges.{alike_state, none_goes, row_comes, row_goes}
@@ -19,7 +20,7 @@ use Rattle.numbered_rows.specs.Conditions.{IsFreeToGo, IsReadyFor, is_account, n
 use Rattle.numbered_rows.specs.Numbering.{holding_of, holds_some, number_of, one_number, two_numbers}
 use Rattle.numbered_rows.specs.RowChanges.{with_row, without_row}
 use Rattle.numbered_rows.specs.Steps.{Comes, Goes, MayGo}
-use Rattle.numbered_rows.specs.Tables.{AreSound, IsNumberedWell, Tables, state_of}
+use Rattle.numbered_rows.specs.Tables.{AreSound, HaveBasis, IsNumberedWell, Tables, state_of}
 use Rattle.object_bits.specs.declared.object.Object.TheVariants as object
 use Rattle.role_graph.specs.Edges.{granted, with_admin}
 use Rattle.role_graph.specs.Paths.{Reaches as Leads, all_reached}
@@ -157,8 +158,8 @@ module _ (tables : Tables) (sound : AreSound tables) where
         let h = stand_holding tables row other stand in
         row_comes tables holdings row h.0 h.1 (subst (Comes tables.holdings holdings) h.1 comes)
 
-    comes_sound : names_stand (state_of tables) row ≡ true → Comes tables.holdings holdings (holding_of names row) → AreSound after
-    comes_sound stand comes =
+    comes_sound : names_stand (state_of tables) row ≡ true → IsReadyFor (state_of tables) row → Comes tables.holdings holdings (holding_of names row) → AreSound after
+    comes_sound stand ready comes =
         let h = stand_holding tables row other stand in
         record {
           once = sound.once;
@@ -166,20 +167,26 @@ module _ (tables : Tables) (sound : AreSound tables) where
           known = sound.known;
           counted = same ∙ sound.counted;
           well = well_with names tables.holdings holdings h.0 row other h.1 (subst (Comes tables.holdings holdings) h.1 comes) sound.well;
+          basis = basis_comes tables holdings row h.0 h.1 ready (subst (Comes tables.holdings holdings) h.1 comes) sound.basis;
         }
 
-    goes_sound : Goes tables.holdings holdings (holding_of names row) → AreSound after
-    goes_sound goes = record {
+    goes_sound : IsFreeToGo (state_of tables) row → Goes tables.holdings holdings (holding_of names row) → AreSound after
+    goes_sound free goes = record {
       once = sound.once;
       few = sound.few;
       known = sound.known;
       counted = same ∙ sound.counted;
       well = by (holding_of names row) goes;
+      basis = based (holding_of names row) refl goes;
     }
       where
         by : (o : Option Holding) → Goes tables.holdings holdings o → IsNumberedWell names holdings
         by None goes = well_alike names tables.holdings holdings goes sound.well
         by (Some h) goes = well_without names tables.holdings holdings h goes sound.well
+
+        based : (o : Option Holding) → holding_of names row ≡ o → Goes tables.holdings holdings o → HaveBasis holdings
+        based None is goes = basis_alike tables.holdings holdings goes sound.basis
+        based (Some h) is goes = basis_goes tables holdings row h is free goes sound.basis
 
     goes_state : Goes tables.holdings holdings (holding_of names row) → state_of after ≡ without_row row (state_of tables)
     goes_state goes = by (holding_of names row) refl goes
@@ -203,11 +210,13 @@ module _ (tables now : Tables) (seen : tables ≡ now) (sound : AreSound tables)
     put_state stand comes =
         comes_state tables sound row other holdings same (ap (λ t. names_stand (state_of t) row) seen ∙ stand) comes ∙ ap (λ t. with_row row (state_of t)) seen
 
-    pub put_sound : names_stand (state_of now) row ≡ true → Comes tables.holdings holdings (holding_of tables.accounts.names row) → AreSound (record tables { holdings = holdings })
-    put_sound stand comes = comes_sound tables sound row other holdings same (ap (λ t. names_stand (state_of t) row) seen ∙ stand) comes
+    pub put_sound : names_stand (state_of now) row ≡ true → IsReadyFor (state_of now) row → Comes tables.holdings holdings (holding_of tables.accounts.names row) → AreSound (record tables { holdings = holdings })
+    put_sound stand ready comes =
+        comes_sound tables sound row other holdings same (ap (λ t. names_stand (state_of t) row) seen ∙ stand)
+        (subst (λ t. IsReadyFor (state_of t) row) (sym seen) ready) comes
 
     pub take_state : Goes tables.holdings holdings (holding_of tables.accounts.names row) → state_of (record tables { holdings = holdings }) ≡ without_row row (state_of now)
     take_state goes = goes_state tables sound row other holdings same goes ∙ ap (λ t. without_row row (state_of t)) seen
 
-    pub take_sound : Goes tables.holdings holdings (holding_of tables.accounts.names row) → AreSound (record tables { holdings = holdings })
-    take_sound goes = goes_sound tables sound row other holdings same goes
+    pub take_sound : IsFreeToGo (state_of now) row → Goes tables.holdings holdings (holding_of tables.accounts.names row) → AreSound (record tables { holdings = holdings })
+    take_sound free goes = goes_sound tables sound row other holdings same (subst (λ t. IsFreeToGo (state_of t) row) (sym seen) free) goes

@@ -1,5 +1,6 @@
 pub mod AccountSteps
 pub mod Alike
+pub mod Beside
 pub mod Coming
 pub mod Going
 pub mod HeldRows

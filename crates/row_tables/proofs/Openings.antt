@@ -1,7 +1,7 @@
 -- The first state, privilege by privilege.
 use Rattle.std.proofs.Common.{◌≡◌, ◌∙◌, ◌≤◌, ◌<◌, ap, sym, subst, ℕ, ◌+◌, ◌==◌, Bool, true, false, cond, not, ◌||◌, ◌&&◌, List, [], Option, Some, None, is_some, length, count_by, IsTrue, nat_lt, nat_eq, refl, arith}
 use Rattle.std.proofs.Math.Bool.{or-false}
-use Rattle.std.proofs.lemmas.Bool.{lt-ltb}
+use Rattle.std.proofs.lemmas.Bool.{lt-ltb, true≢false}
 use Rattle.std.proofs.lemmas.Bool.Decides.{nat_tests}
 use Rattle.std.specs.List.{list_any}
 use Rattle.std.specs.Option.{option_map}
@@ -152,6 +152,7 @@ empty_sound t none known globals schemas objects roles defaults = record {
   known = ap length known ∙ sym (ap length none);
   counted = ap length globals ∙ sym (ap length none);
   well = λ n free h named. nothing_held t.holdings globals schemas objects roles defaults h;
+  basis = λ n d there. absurd (true≢false (sym there ∙ nothing_held t.holdings globals schemas objects roles defaults (held.OnAll kind.Grantable n d)));
 }
 
 -- there is room where no account stands

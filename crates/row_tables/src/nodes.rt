@@ -1,7 +1,7 @@
 //! Accounts as nodes of the graph of roles.
-ghost use Rattle.std.specs.Prelude.{◌≡◌, ◌<◌, IfSome, Some};
+ghost use Rattle.std.specs.Prelude.{◌≡◌, ◌<◌, IfSome, IsTrue, Some};
 ghost use Rattle.std.specs.Option.{option_copied};
-ghost use Rattle.acl_model.specs.declared.row.Row.TheVariants.{Admin as AdminRow, Edge as EdgeRow};
+ghost use Rattle.acl_model.specs.declared.row.Row.TheVariants.{Admin as AdminRow, Dynamic as DynamicRow, DynamicGrant as DynamicGrantRow, Edge as EdgeRow};
 ghost use Rattle.acl_names.specs.declared.auth.AuthId.{AuthId as AuthIdValue};
 ghost use Rattle.row_tables.specs.Tables.{state_of};
 ghost use Rattle.numbered_names.specs.Numbered.{name_at};
@@ -42,5 +42,15 @@ impl Rows {
         ensures { option_copied result ≡ name_at self.now.accounts.names node }
     {
         self.accounts.name_of(node)
+    }
+
+    /// The law that the right to grant a privilege or a role stands beside it. It does nothing when it runs.
+    pub fn options_stand_beside(&self)
+        ensures privileges { (a : AuthIdValue) (d : ℕ) → IsTrue ((state_of self.now).rows (DynamicGrantRow a d)) →
+            IsTrue ((state_of self.now).rows (DynamicRow a d)) }
+        ensures roles { (role to : AuthIdValue) → IsTrue ((state_of self.now).rows (AdminRow role to)) →
+            IsTrue ((state_of self.now).rows (EdgeRow role to)) }
+    {
+        let _ = &self.holdings;
     }
 }

@@ -8,3 +8,7 @@ take_held-requires-clause-may_go c = take_ready (the_view c.self.inside) c.args.
 pub returns-clause-state : goal.returns-clause-state
 returns-clause-state c =
     take_state (the_view c.self.inside) c.args.self.now c.self.view_is c.self.invariant c.args.row.now c.requires.other c.take_held.new.holdings c.take_held.ensures.accounts c.take_held.ensures.goes
+
+pub invariant_of-self : goal.invariant_of-self
+invariant_of-self c =
+    take_sound (the_view c.self.inside) c.args.self.now c.self.view_is c.self.invariant c.args.row.now c.requires.other c.take_held.new.holdings c.take_held.ensures.accounts c.requires.free c.take_held.ensures.goes

@@ -1,5 +1,5 @@
 use Rattle.std.proofs.Common.{◌∙◌, ap, refl}
-use Rattle.row_tables.proofs.Alike.{alike_state}
+use Rattle.row_tables.proofs.Alike.{alike_sound, alike_state}
 use Rattle.row_tables.specs.Tables.{state_of}
 use Rattle.row_tables.specs.contracts.rows.Rows.{the_view}
 use Rattle.row_tables.proofs.rows.Rows.reserve.Goals as goal
@@ -18,3 +18,8 @@ pub returns-clause-state : goal.returns-clause-state
 returns-clause-state c =
     alike_state (the_view c.self.inside) (the_view (record c.self.inside { accounts = c.reserve.new.self; account_data = c.reserve-2.new.self; holdings = c.reserve-3.new.self })) c.reserve.ensures.names c.reserve-3.ensures.alike c.reserve-2.ensures.items refl refl
     ∙ ap state_of c.self.view_is
+
+pub invariant_of-self-2 : goal.invariant_of-self-2
+invariant_of-self-2 c =
+    alike_sound (the_view c.self.inside) (the_view (record c.self.inside { accounts = c.reserve.new.self; account_data = c.reserve-2.new.self; holdings = c.reserve-3.new.self })) c.reserve.ensures.names c.reserve-3.ensures.alike
+    c.reserve-2.ensures.items c.reserve-3.ensures.accounts c.self.invariant

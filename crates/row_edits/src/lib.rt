@@ -1,0 +1,6 @@
+//! Lists of rows that go and come, tried and carried out.
+#![tactic(auto)]
+
+mod come;
+
+pub use come::put_each;
