@@ -112,3 +112,27 @@ example-root :
     ∷ []
 unfolding lines_of in_order bits_below line_text canonical_text holds each_below plain_names dynamic_names
 example-root = refl
+
+-- with the rights of two roles beside those of the account; the roles are those of the account alone
+abbrev app : List ℕ
+app = codes "app_db"
+
+abbrev roles_with_rights : State
+roles_with_rights =
+    next (Grant (plain_list (λ p. p == 1 || p == 2 || p == 3)) (on.Schema app) (writer ∷ []) false)
+    (next (Grant (plain_list (λ p. p == 0)) (on.Schema app) (reader ∷ []) false) (next (GrantRoles (reader ∷ writer ∷ []) (ann ∷ []) false) nothing_held))
+
+abbrev rows_with_rights : List Row
+rows_with_rights = Schema reader app 0 ∷ Schema writer app 1 ∷ Schema writer app 2 ∷ Schema writer app 3 ∷ Edge reader ann ∷ Edge writer ann ∷ []
+
+example-with_roles :
+    map line_text (shown roles_with_rights rows_with_rights (ann ∷ reader ∷ writer ∷ []) ann)
+    ≡ codes "GRANT USAGE ON *.* TO `ann`@`%`" ∷ codes "GRANT SELECT, INSERT, UPDATE, DELETE ON `app_db`.* TO `ann`@`%`"
+    ∷ codes "GRANT `reader`@`%`,`writer`@`%` TO `ann`@`%`" ∷ []
+unfolding lines_of in_order put_in bits_below becomes changed line_text canonical_text holds each_below plain_names
+example-with_roles = refl
+
+example-without_roles :
+    texts roles_with_rights rows_with_rights ann ≡ codes "GRANT USAGE ON *.* TO `ann`@`%`" ∷ codes "GRANT `reader`@`%`,`writer`@`%` TO `ann`@`%`" ∷ []
+unfolding lines_of in_order put_in bits_below becomes changed line_text canonical_text holds each_below plain_names
+example-without_roles = refl
