@@ -1,17 +1,14 @@
 -- What a login makes of what is stored of its session.
-use Rattle.std.proofs.Common.{◌≡◌, ◌∙◌, ap, sym, subst, ℕ, ℤ, ◌+◌, ◌≤◌, inl, inr, Bool, true, false, cond, max, IsTrue, List, [], ◌∷◌, length, take, Option, None, Some, Ok, Err, refl, append-nil, arith}
+use Rattle.std.proofs.Common.{◌≡◌, ◌∙◌, ap, sym, subst, ℕ, ℤ, ◌+◌, inl, inr, Bool, true, false, cond, max, IsTrue, List, [], ◌∷◌, length, take, Option, None, Some, Ok, Err, refl, append-nil, arith}
 use Rattle.std.proofs.Math.Seq.{take-length}
-use Rattle.std.specs.Option.{ForSome, option_map}
-use Rattle.std.specs.Prelude.{AllPairs, codes}
-use Rattle.std.specs.declared.cmp.Ordering.TheVariants.{Less}
+use Rattle.std.specs.Option.{option_map}
+use Rattle.std.specs.Prelude.{codes}
 use Rattle.acl_model.specs.Accounts.{new_account}
 use Rattle.acl_model.specs.Effects.{state_after}
 use Rattle.acl_model.specs.Roles.{is_granted}
-use Rattle.acl_model.specs.Rows.{lists}
 use Rattle.acl_model.specs.State.{State, no_policy, opening, stands}
 use Rattle.acl_model.specs.Verdict.{Reading}
 use Rattle.acl_names.proofs.SameAuth.{equal_from_text_eq, text_eq_itself}
-use Rattle.acl_names.specs.AuthId.{auth_cmp}
 use Rattle.acl_names.specs.Text.{text_eq}
 use Rattle.acl_names.specs.Verifiers.{empty_verifier}
 use Rattle.acl_names.specs.declared.auth.AuthId.{AuthId}
@@ -22,8 +19,8 @@ use Rattle.book_log.specs.Items.Call.{Knocks}
 use Rattle.book_log.specs.Items.LoginRefusal.{NoAccount}
 use Rattle.book_log.specs.Items.Reply.{ToLogin}
 use Rattle.book_log.specs.Logins.{AreActiveAtLogin, IsAnswerTo, IsChosenBy, IsLogin, IsLoginReply, is_password, tried_at}
-use Rattle.book_log.specs.Logs.{IsReply, entries_at}
-use Rattle.book_log.specs.Pasts.{Past, events_of, moment_after, moment_of}
+use Rattle.book_log.specs.Logs.{IsReply}
+use Rattle.book_log.specs.Pasts.{events_of, moment_after, moment_of}
 use Rattle.legal_runs.specs.Commands.{Answer as answer}
 use Rattle.legal_runs.specs.Commands.Command.{Connect}
 use Rattle.legal_runs.specs.Lines.{IsWhole}
@@ -41,9 +38,9 @@ use Rattle.priv_map.specs.Readings.{IsReadAt, current_of, reading_of}
 use Rattle.priv_map.specs.declared.acting.Acting.{Acting}
 use Rattle.priv_map.specs.declared.schema_held.SchemaHeld.{SchemaHeld}
 use Rattle.serial_runs.specs.Serial.Doing.{Calls}
-use Rattle.session_check.specs.Session.{acting_of, points_of}
+use Rattle.session_check.specs.Session.{acting_of}
 use Rattle.session_check.specs.declared.session.SessionState.{SessionState}
-use Rattle.session_rules.specs.Setting.{at_host, chosen, origin, rules, serial_setting}
+use Rattle.session_rules.specs.Setting.{at_host, chosen, rules}
 use Rattle.script_run.proofs.Lines.{alone, does_nothing, gives_up}
 use Rattle.script_run.specs.Forms.{has_no_password}
 use Rattle.script_run.specs.Lines.{IsOpen, IsRepliedAfter, state_now}
@@ -146,13 +143,15 @@ login_replied entries caller number knock entered opened empty chosen_is is = λ
     subst (λ (es : List Entry).
     IsChosenBy rules.own_choice (state_after es opening) knock (Some entered.shown)
     × IsLoginReply (state_after es opening) (length es) events moment knock (Some entered.shown) (Ok (login_of entries entered)))
-    (sym entries_are)
-    ((sym chosen_is, λ who same. let own : entered.shown ≡ who = cc in ap (stands (state_now entries)) (sym own) ∙ there), (
-      new_account,
-      opened.accounts entered.shown there,
-      subst (λ (t : Tried). IsAnswerTo (state_now entries) (length entries) entered.shown new_account t (Ok (login_of entries entered)))
-          (sym (always_open (events entered.shown) moment knock.verifier empty)) (login_of entries entered, refl, is_login entries entered opened is),
-    ))
+    (sym entries_are) (
+      (sym chosen_is, λ who same. let own : entered.shown ≡ who = cc in ap (stands (state_now entries)) (sym own) ∙ there),
+      (
+        new_account,
+        opened.accounts entered.shown there,
+        subst (λ (t : Tried). IsAnswerTo (state_now entries) (length entries) entered.shown new_account t (Ok (login_of entries entered)))
+            (sym (always_open (events entered.shown) moment knock.verifier empty)) (login_of entries entered, refl, is_login entries entered opened is),
+      ),
+    )
 
 -- ---- CONNECT
 

@@ -1,5 +1,5 @@
 -- The refusals that rows give are none of those that have causes of their own.
-use Rattle.std.proofs.Common.{◌≡◌, ◌∙◌, ℕ, Bool, true, false, not, ◌&&◌, ◌||◌, List, [], ◌∷◌, Option, Some, None, if◌then◌else◌, refl, sym, ap}
+use Rattle.std.proofs.Common.{◌≡◌, ◌∙◌, Bool, true, false, not, ◌&&◌, ◌||◌, List, [], ◌∷◌, Option, Some, None, if◌then◌else◌, refl, sym, ap}
 use Rattle.std.specs.Option.{option_map, option_or}
 use Rattle.acl_model.specs.Acceptance.{IsRefused}
 use Rattle.acl_model.specs.Refusals.{first_fault, no_account, no_renaming}

@@ -1,11 +1,10 @@
 -- What a statement makes of what is stored of its session.
-use Rattle.std.proofs.Common.{◌≡◌, ◌∙◌, ap, sym, subst, ℕ, ◌+◌, ◌≤◌, ◌⊎◌, inl, inr, Bool, true, false, cond, max, IsTrue, List, [], ◌∷◌, ◌++◌, length, take, Option, None, Some, Result, Ok, Err, refl, append-nil, arith, length-append}
+use Rattle.std.proofs.Common.{◌≡◌, ◌∙◌, ap, sym, subst, ℕ, ◌+◌, ◌⊎◌, inl, inr, Bool, true, false, cond, max, IsTrue, List, [], ◌∷◌, ◌++◌, length, take, Option, None, Some, Result, Ok, Err, refl, append-nil, arith, length-append}
 use Rattle.std.proofs.lemmas.List.{take-append-le}
 use Rattle.std.specs.Option.{option_map}
 use Rattle.acl_apply.specs.Causes.{IsCause}
-use Rattle.acl_model.specs.Acceptance.{IsAccepted, IsRefused}
 use Rattle.acl_model.specs.Effects.{after, changed, state_after}
-use Rattle.acl_model.specs.State.{State, opening, root}
+use Rattle.acl_model.specs.State.{opening, root}
 use Rattle.acl_names.specs.AuthId.{same_auth}
 use Rattle.acl_names.specs.declared.auth.AuthId.{AuthId}
 use Rattle.acl_stmt.specs.Entries.{is_entry}

@@ -1,9 +1,7 @@
 -- What a line that calls nobody makes of what is stored of its session, and what copies are copies of.
-use Rattle.std.proofs.Common.{◌≡◌, ◌∙◌, ap, sym, subst, ℕ, ◌+◌, ◌≤◌, ◌⊎◌, inl, inr, Bool, true, false, ◌&&◌, ◌||◌, IsTrue, List, [], ◌∷◌, ◌++◌, length, take, Option, None, Some, refl, append-nil, arith}
+use Rattle.std.proofs.Common.{◌≡◌, ◌∙◌, ap, sym, subst, ℕ, ◌⊎◌, inl, inr, Bool, true, false, IsTrue, List, [], ◌∷◌, take, Option, None, Some, refl, append-nil, arith}
 use Rattle.std.proofs.Math.Bool.{Bool-set}
-use Rattle.std.proofs.Math.Seq.{take-length}
 use Rattle.std.proofs.lemmas.Bool.{or_cases, or_left}
-use Rattle.std.specs.Option.{option_map}
 use Rattle.acl_model.specs.Effects.{state_after}
 use Rattle.acl_model.specs.Roles.{AreSources, IsSource}
 use Rattle.acl_model.specs.Roles.IsSource.{Itself, Through}
@@ -22,16 +20,16 @@ use Rattle.legal_runs.specs.Commands.{Answer, Command}
 use Rattle.legal_runs.specs.Commands.Answer.{NoMemory}
 use Rattle.legal_runs.specs.Lines.{IsGivenUp, IsWhole}
 use Rattle.legal_runs.specs.Rules.{IsActing, IsReading}
-use Rattle.legal_runs.specs.Sessions.{Part, Session, Who, after_line, views}
+use Rattle.legal_runs.specs.Sessions.{Who, after_line, views}
 use Rattle.line_answers.specs.declared.answer.Answer.{Answer as ToldAnswer}
 use Rattle.line_answers.specs.declared.points.Points.{Points}
 use Rattle.priv_map.specs.declared.acting.Acting.{Acting}
 use Rattle.serial_runs.specs.Serial.Doing.{Looks}
-use Rattle.session_check.specs.Session.{StandsFor, acting_of, login_reading, points_of, schema_reading}
+use Rattle.session_check.specs.Session.{acting_of, login_reading, schema_reading}
 use Rattle.session_check.specs.declared.session.SessionState.{SessionState}
 use Rattle.session_rules.specs.Answers.{told_answer}
 use Rattle.session_rules.specs.Setting.{rules, serial_setting}
-use Rattle.script_run.specs.Lines.{IsEntryOf, IsOpen}
+use Rattle.script_run.specs.Lines.{IsEntryOf}
 use Rattle.script_run.specs.Seats.{IsSound, IsSoundIf, IsSoundState, Steps, session_in, who_of}
 use Rattle.script_run.specs.declared.seat.Seat.{Seat}
 

@@ -1,5 +1,5 @@
 -- Seats that stand for the sessions of a run stand for them with one line more.
-use Rattle.std.proofs.Common.{◌≡◌, ◌≢◌, ◌∙◌, ap, sym, subst, ℕ, zero, suc, ◌+◌, ◌<◌, ◌≤◌, ◌==◌, inl, inr, Bool, true, false, List, [], ◌∷◌, ◌++◌, length, map, get_or, set, take, Option, None, Some, Ok, Err, refl, arith, length-append, length-set, append-nil}
+use Rattle.std.proofs.Common.{◌≡◌, ◌≢◌, ◌∙◌, ap, sym, subst, ℕ, zero, suc, ◌+◌, ◌<◌, ◌≤◌, inl, inr, Bool, true, false, List, [], ◌∷◌, ◌++◌, length, map, get_or, set, Option, None, Some, Ok, Err, refl, arith, length-append, length-set}
 use Rattle.std.proofs.lemmas.Bool.Decides.{eqb_tells}
 use Rattle.std.proofs.lemmas.List.Elements.{All-nil, All-push}
 use Rattle.std.specs.List.{All}
@@ -9,13 +9,13 @@ use Rattle.acl_names.specs.declared.auth.AuthId.{AuthId}
 use Rattle.acl_stmt.specs.declared.entry.Entry.{Entry}
 use Rattle.book_log.specs.Callers.{calls}
 use Rattle.book_log.specs.Histories.{history, some_entry, stored}
-use Rattle.book_log.specs.Items.{Call, Item, Reply}
+use Rattle.book_log.specs.Items.{Call, Reply}
 use Rattle.book_log.specs.Items.Call.{Asks, Knocks}
 use Rattle.book_log.specs.Items.Reply.{ToLogin, ToStatement}
 use Rattle.book_log.specs.Logs.{IsReply, with_end}
 use Rattle.book_log.specs.Pasts.{log_of}
-use Rattle.legal_runs.specs.Commands.{Answer, Command}
-use Rattle.legal_runs.specs.Core.{Event, IsRun, history_of, past_of, published}
+use Rattle.legal_runs.specs.Commands.{Command}
+use Rattle.legal_runs.specs.Core.{Event, IsRun, history_of, past_of}
 use Rattle.legal_runs.specs.Core.Act.{Book}
 use Rattle.legal_runs.specs.Core.Event.{By, Publish}
 use Rattle.legal_runs.specs.Lines.{IsWhole}
@@ -36,7 +36,7 @@ use Rattle.script_run.proofs.Opens.{opens_at_first}
 use Rattle.script_run.specs.Calls.{command_of}
 use Rattle.script_run.specs.Lines.{IsOpen, IsRepliedAfter, parts_for, state_now, stored_for}
 use Rattle.script_run.specs.Seats.{IsFresh, IsSound, IsSoundIf, Steps, session_in}
-use Rattle.script_run.specs.Told.{AreTold, IsTold, asked, asked_by, told_by}
+use Rattle.script_run.specs.Told.{AreTold, asked, asked_by, told_by}
 use Rattle.script_run.specs.declared.seat.Seat.{Seat}
 
 abbrev events_so_far : List Step → List Event

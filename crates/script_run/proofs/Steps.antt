@@ -1,5 +1,5 @@
 -- What a line makes of what is stored of its session.
-use Rattle.std.proofs.Common.{◌≡◌, ◌∙◌, ap, sym, subst, ℕ, ◌+◌, ◌≤◌, inl, inr, Bool, true, false, cond, max, List, [], ◌∷◌, ◌++◌, length, take, Option, None, Some, refl, append-nil, arith}
+use Rattle.std.proofs.Common.{◌≡◌, ◌∙◌, ap, sym, subst, ℕ, inl, inr, List, [], ◌∷◌, length, Option, None, Some, refl, append-nil, arith}
 use Rattle.std.proofs.Math.Seq.{take-length}
 use Rattle.std.specs.Option.{option_map}
 use Rattle.acl_model.specs.Effects.{state_after}
@@ -9,7 +9,6 @@ use Rattle.acl_stmt.specs.declared.entry.Entry.{Entry}
 use Rattle.acl_stmt.specs.declared.privileges.PrivList.{PrivList}
 use Rattle.acl_stmt.specs.declared.refusal.Missing.{Missing}
 use Rattle.acl_stmt.specs.declared.target.Target.{Target}
-use Rattle.legal_runs.specs.Commands.{Answer}
 use Rattle.legal_runs.specs.Commands.{Answer as answer}
 use Rattle.legal_runs.specs.Commands.Command.{Check, Disconnect, UseSchema}
 use Rattle.legal_runs.specs.Lines.{IsAnsweredAs, IsWhole}

@@ -11,7 +11,6 @@ use Rattle.book_log.specs.Logs.{Origin}
 use Rattle.book_log.specs.Rules.{Rules}
 use Rattle.legal_runs.specs.Commands.Shown.{NoSuchAccount}
 use Rattle.legal_runs.specs.Rules.{Setting}
-use Rattle.priv_map.specs.declared.acting.Acting.{Acting}
 use Rattle.priv_sets.specs.declared.privilege.Privilege.TheVariants.{Plain}
 
 -- an account of this user at a host

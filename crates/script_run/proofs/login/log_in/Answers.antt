@@ -1,5 +1,4 @@
-use Rattle.std.proofs.Common.{◌∙◌, ap, arith, sym, refl}
-use Rattle.std.proofs.Math.Nat.{le_refl}
+use Rattle.std.proofs.Common.{◌∙◌, ap, arith}
 use Rattle.map_publish.specs.History.{entries_of}
 use Rattle.priv_map.specs.MapState.{state_in}
 use Rattle.priv_map.specs.declared.acting.Acting.{Acting}

@@ -1,10 +1,9 @@
-use Rattle.std.proofs.Common.{◌≡◌, ◌∙◌, ◌+◌, ◌<◌, ◌++◌, ◌∷◌, [], length, take, set, ap, sym, subst, arith}
-use Rattle.std.proofs.Math.Seq.{take-length}
+use Rattle.std.proofs.Common.{◌≡◌, ◌∙◌, ◌+◌, ◌<◌, ◌++◌, ◌∷◌, [], take, set, ap, sym, subst, arith}
 use Rattle.std.proofs.lemmas.List.{length-take-le, take_more}
 use Rattle.map_publish.specs.History.{entries_of}
 use Rattle.script_lines.specs.declared.lines.Line.{Line}
 use Rattle.script_read.specs.declared.command.Command.{Command}
-use Rattle.script_run.proofs.Running.{IsUnderWay, under_way_calls, under_way_first, under_way_next, under_way_sound}
+use Rattle.script_run.proofs.Running.{IsUnderWay, under_way_calls, under_way_first, under_way_next}
 use Rattle.script_run.specs.Told.{told_by}
 use Rattle.script_run.proofs.run.run_lines.Goals as goal
 
