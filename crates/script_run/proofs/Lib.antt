@@ -1,4 +1,9 @@
 pub mod Columns
+pub mod Entering
+pub mod Faults
+pub mod Issuing
+pub mod Lines
+pub mod Opens
 pub mod Rules
 pub mod Running
 pub mod Steps

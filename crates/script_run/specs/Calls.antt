@@ -1,13 +1,15 @@
--- What each command asks of a session.
-use Rattle.script_read.specs.declared.command.Command.{Command}
-use Rattle.script_read.specs.declared.command.Command.TheVariants as command
-use Rattle.session_rules.specs.Sessions.{Call}
-use Rattle.session_rules.specs.Sessions.Call.{Connect, Disconnect, Use, Check, Issue, Other}
+-- What each command asks for.
+use Rattle.script_read.specs.declared.command.Command.{Command as Written}
+use Rattle.script_read.specs.declared.command.Command.TheVariants as written
+use Rattle.legal_runs.specs.Commands.{Command}
+use Rattle.legal_runs.specs.Commands.Command.{Await, Check, Connect, Disconnect, Issue, SetRole, ShowGrants, UseSchema}
 
-abbrev pub call_of : Command → Call
-call_of (command.Connect user client verifier moment) = Connect user
-call_of command.Disconnect = Disconnect
-call_of (command.UseSchema schema) = Use schema
-call_of (command.Check request) = Check request.privileges request.target
-call_of (command.Statement statement) = Issue statement
-call_of _ = Other
+abbrev pub command_of : Written → Command
+command_of (written.Connect user client verifier moment) = Connect (record { user = user; client = client; verifier = verifier; moment = moment })
+command_of written.Disconnect = Disconnect
+command_of (written.UseSchema schema) = UseSchema schema
+command_of (written.SetRole form) = SetRole form
+command_of (written.Check request) = Check request.privileges request.target
+command_of (written.ShowGrants account roles) = ShowGrants account roles
+command_of (written.Await length turns) = Await length turns
+command_of (written.Statement statement) = Issue statement

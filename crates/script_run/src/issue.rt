@@ -5,10 +5,13 @@ ghost use Rattle.acl_model.specs.State.{root};
 ghost use Rattle.acl_names.specs.AuthId.{same_auth};
 ghost use Rattle.acl_stmt.specs.Entries.{is_entry};
 ghost use Rattle.map_publish.specs.History.{entries_of};
+ghost use Rattle.legal_runs.specs.Commands.Command.{Issue};
 ghost use Rattle.script_run.specs.Denials.{is_want};
+ghost use Rattle.script_run.specs.Forms.{is_built_statement};
+ghost use Rattle.script_run.specs.Lines.{IsEntryOf};
 ghost use Rattle.script_run.specs.Seats.{IsSound, Steps, Tries};
-ghost use Rattle.session_rules.specs.Answers.{IsEntryOf, no_right};
-ghost use Rattle.session_rules.specs.Sessions.Call.{Issue};
+ghost use Rattle.session_rules.specs.Answers.{denial_on_all};
+ghost use Rattle.session_rules.specs.Setting.{no_right};
 
 use crate::seat::Seat;
 use acl_items::Items;
@@ -31,6 +34,7 @@ pub(crate) fn issue(
     statement: &Statement,
 ) -> Answer
     requires built { IsTrue (is_built statement.now) }
+    requires form { IsTrue (is_built_statement statement.now) }
     requires rules { IsTrue (is_entry [] statement.now) }
     requires calls { seat.old.calls + 1 < 2 ^ 32 }
     requires room { length (entries_of published.old) + 1 < 2 ^ 32 }
@@ -99,7 +103,7 @@ fn is_root(account: &AuthId) -> bool
 
 // What a session lacks that is not root's.
 fn no_right() -> Denial
-    ensures { result ≡ no_right }
+    ensures { result ≡ denial_on_all no_right }
 {
     Denial {
         missing: Missing {

@@ -5,8 +5,9 @@ ghost use Rattle.std.specs.Str.{str_to_ascii_lowercase};
 ghost use Rattle.acl_model.specs.State.{stands};
 ghost use Rattle.acl_rows.specs.Tables.{state_of};
 ghost use Rattle.map_publish.specs.History.{entries_of};
+ghost use Rattle.script_run.specs.Lines.{state_now};
 ghost use Rattle.script_run.specs.Seats.{IsEntered};
-ghost use Rattle.session_rules.specs.Answers.{chosen, state_now};
+ghost use Rattle.session_rules.specs.Setting.{chosen};
 
 use acl_items::Items;
 use acl_names::{AuthId, HostText, UserName};

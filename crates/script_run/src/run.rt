@@ -2,8 +2,9 @@
 ghost use Rattle.std.specs.Prelude.{◌≡◌, ◌+◌, ◌<◌, ◌^◌, length, IfOk, IsTrue};
 ghost use Rattle.std.specs.List.{All};
 ghost use Rattle.map_publish.specs.History.{entries_of};
-ghost use Rattle.script_run.specs.Calls.{call_of};
+ghost use Rattle.script_run.specs.Calls.{command_of};
 ghost use Rattle.script_run.specs.Forms.{is_built, keeps_rules};
+ghost use Rattle.script_run.specs.Lines.{IsOpen, state_now};
 ghost use Rattle.script_run.specs.Seats.{IsFresh, IsSound, Steps};
 ghost use Rattle.script_run.specs.Told.{IsRun, told_by};
 
@@ -59,8 +60,9 @@ fn answer(
     requires calls { seat.old.calls + 1 < 2 ^ 32 }
     requires room { length (entries_of published.old) + 1 < 2 ^ 32 }
     requires sound { IsSound seat.old (entries_of published.old) }
+    requires opened { IsOpen (state_now (entries_of published.old)) }
     ensures { Steps (entries_of published.old) (entries_of published.new) session seat.old seat.new
-        (call_of command.now) result }
+        (command_of command.now) result }
 {
     match command {
         Command::Connect { user, .. } => seat.connect(alloc, published, user),

@@ -1,13 +1,16 @@
 //! The sessions of a run, and the answers to what changes no row.
-ghost use Rattle.std.specs.Prelude.{◌≡◌, ◌+◌, ◌<◌, ◌^◌, [], None, Some, length, IfOk, OnErr, OnOk};
+ghost use Rattle.std.specs.Prelude.{◌≡◌, ◌+◌, ◌<◌, ◌^◌, [], None, Some, length, IfOk, IsTrue, OnErr, OnOk};
 ghost use Rattle.map_publish.specs.History.{entries_of};
-ghost use Rattle.line_answers.specs.declared.answer.Answer.TheVariants.{Connected};
-ghost use Rattle.script_run.specs.Seats.{OnlyAnswers, IsEntered, IsSound, session_in};
-ghost use Rattle.session_check.specs.Session.{StandsFor, UsesSchema, readings_after};
-ghost use Rattle.session_rules.specs.Answers.{verdict_answer};
 ghost use Rattle.acl_model.specs.Verdict.{verdict_of};
-ghost use Rattle.session_rules.specs.Sessions.Call.{Check, Connect, Disconnect, Use};
-ghost use Rattle.session_rules.specs.Sessions.{connected, fresh};
+ghost use Rattle.book_log.specs.Items.{Knock};
+ghost use Rattle.legal_runs.specs.Commands.Command.{Check, Connect, Disconnect, UseSchema};
+ghost use Rattle.legal_runs.specs.Sessions.{fresh};
+ghost use Rattle.line_answers.specs.declared.answer.Answer.TheVariants.{Connected};
+ghost use Rattle.script_run.specs.Denials.{verdict_told};
+ghost use Rattle.script_run.specs.Forms.{has_no_password};
+ghost use Rattle.script_run.specs.Lines.{IsOpen, state_now};
+ghost use Rattle.script_run.specs.Seats.{IsEntered, IsSeated, IsSound, OnlyAnswers, session_in};
+ghost use Rattle.session_check.specs.Session.{StandsFor, UsesSchema, readings_after};
 
 use crate::denial::denial_of;
 use crate::login::{Entered, log_in};
@@ -37,6 +40,7 @@ impl Seat {
     pub(crate) fn new() -> Seat
         ensures session { session_in result ≡ fresh }
         ensures state { result.state ≡ None }
+        ensures calls { result.calls ≡ 0 }
     {
         Seat {
             state: None,
@@ -57,7 +61,10 @@ impl Seat {
         user: &UserName,
     ) -> Answer
         requires room { self.old.calls + 1 < 2 ^ 32 }
-        ensures { OnlyAnswers (entries_of published.now) self.old self.new (Connect user.now) result }
+        requires sound { IsSound self.old (entries_of published.now) }
+        requires opened { IsOpen (state_now (entries_of published.now)) }
+        ensures { (knock : Knock) → knock.user ≡ user.now → IsTrue (has_no_password knock.verifier) →
+            OnlyAnswers (entries_of published.now) self.old self.new (Connect knock) result }
     {
         self.state = None;
         match log_in(alloc, published, user) {
@@ -74,9 +81,7 @@ impl Seat {
         requires room { self.old.calls + 1 < 2 ^ 32 }
         requires entered { IsEntered (entries_of published.now) entered }
         ensures answer { result ≡ Connected entered.shown }
-        ensures session { session_in self.new
-            ≡ connected (length (entries_of published.now)) entered.shown (session_in self.old) }
-        ensures sound { IsSound self.new (entries_of published.now) }
+        ensures seat { IsSeated (entries_of published.now) entered self.old self.new }
     {
         let Entered { shown, state } = entered;
         self.points = state.points();
@@ -108,7 +113,7 @@ impl Seat {
         schema: &Ident,
     ) -> Answer
         requires sound { IsSound self.old (entries_of published.now) }
-        ensures { OnlyAnswers (entries_of published.now) self.old self.new (Use schema.now) result }
+        ensures { OnlyAnswers (entries_of published.now) self.old self.new (UseSchema schema.now) result }
     {
         match &mut self.state {
             None => Answer::Refused(LineRefusal::NotConnected),
@@ -172,7 +177,7 @@ fn verdict_of(
     request: &Request,
 ) -> Result<Answer, AllocError>
     requires { StandsFor state.now (entries_of published.now) }
-    ensures { IfOk result (λ answer. answer ≡ verdict_answer request.now.privileges request.now.target
+    ensures { IfOk result (λ answer. answer ≡ verdict_told request.now.privileges request.now.target
         (verdict_of (readings_after state.now (entries_of published.now))
         request.now.privileges request.now.target)) }
 {

@@ -1,9 +1,9 @@
 use Rattle.std.proofs.Common.{◌∙◌, sym, refl}
 use Rattle.acl_model.specs.Acceptance.{IsRefused}
 use Rattle.map_publish.specs.History.{entries_of}
-use Rattle.script_run.proofs.Steps.{cause_holds}
+use Rattle.script_run.proofs.Issuing.{cause_holds}
 use Rattle.script_run.specs.Seats.Tries.{Refuses}
-use Rattle.session_rules.specs.Answers.{state_now}
+use Rattle.script_run.specs.Lines.{state_now}
 use Rattle.script_run.proofs.issue.run.Goals as goal
 
 pub returns-else-is_want : goal.returns-else-is_want

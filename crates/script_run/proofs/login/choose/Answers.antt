@@ -1,6 +1,6 @@
 use Rattle.std.proofs.Common.{◌∙◌, sym}
 use Rattle.acl_rows.specs.Tables.{state_of}
-use Rattle.script_run.proofs.Steps.{chooses_anywhere, chooses_local, chooses_none}
+use Rattle.script_run.proofs.Entering.{chooses_anywhere, chooses_local, chooses_none}
 use Rattle.script_run.proofs.login.choose.Goals as goal
 
 pub returns-then-is_standing : goal.returns-then-is_standing

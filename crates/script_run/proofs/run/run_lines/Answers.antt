@@ -1,10 +1,9 @@
-use Rattle.std.proofs.Common.{◌≡◌, ◌∙◌, ◌+◌, ◌<◌, ◌++◌, ◌∷◌, [], length, take, set, ap, sym, subst, arith}
-use Rattle.std.proofs.Math.Seq.{take-length}
+use Rattle.std.proofs.Common.{◌≡◌, ◌∙◌, ◌+◌, ◌<◌, ◌++◌, ◌∷◌, [], take, set, ap, sym, subst, arith}
 use Rattle.std.proofs.lemmas.List.{length-take-le, take_more}
 use Rattle.map_publish.specs.History.{entries_of}
 use Rattle.script_lines.specs.declared.lines.Line.{Line}
 use Rattle.script_read.specs.declared.command.Command.{Command}
-use Rattle.script_run.proofs.Running.{IsUnderWay, under_way_calls, under_way_entries, under_way_first, under_way_next, under_way_seated}
+use Rattle.script_run.proofs.Running.{IsUnderWay, under_way_calls, under_way_first, under_way_next}
 use Rattle.script_run.specs.Told.{told_by}
 use Rattle.script_run.proofs.run.run_lines.Goals as goal
 
@@ -27,8 +26,7 @@ pub answer-answer-requires-clause-room : goal.answer-answer-requires-clause-room
 answer-answer-requires-clause-room c =
     let i = c.loop-line.line-index in
     let lines = c.args.lines.now in
-    let few = under_way_entries (take i lines) c.loop-line.answers.items c.args.sessions c.loop-line.seats.items (entries_of c.loop-line.published) c.loop-line.invariant in
-    omega (arith, few, length-take-le i lines (omega arith), c.requires.count)
+    omega (arith, c.loop-line.invariant.few, length-take-le i lines (omega arith), c.requires.count)
 
 pub loop-line-preserved : goal.loop-line-preserved
 loop-line-preserved c =
@@ -49,9 +47,4 @@ loop-line-preserved c =
     (subst (λ ls. IsUnderWay ls (answers ++ told_by line.session line.number c.answer-answer.result new ∷ []) sessions (set seats line.session new) after) e next)
 
 pub returns-clause-seated : goal.returns-clause-seated
-returns-clause-seated c =
-    let lines = c.args.lines.now in
-    let all : c.loop-line.line-index ≡ length lines = omega arith in
-    let whole : take c.loop-line.line-index lines ≡ lines = ap (λ i. take i lines) all ∙ take-length lines in
-    under_way_seated lines c.loop-line.answers.items c.args.sessions c.loop-line.seats.items (entries_of c.loop-line.published)
-    (subst (λ ls. IsUnderWay ls c.loop-line.answers.items c.args.sessions c.loop-line.seats.items (entries_of c.loop-line.published)) whole c.loop-line.invariant) c.requires.sessions
+returns-clause-seated c = c.loop-line.invariant.placed
