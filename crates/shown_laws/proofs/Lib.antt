@@ -1,3 +1,4 @@
+pub mod Ascending
 pub mod ColumnNames
 pub mod EachLine
 pub mod Entries
