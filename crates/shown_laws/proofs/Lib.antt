@@ -6,6 +6,7 @@ pub mod Feasible
 pub mod Found
 pub mod Holders
 pub mod InOrder
+pub mod KeyOrders
 pub mod Legal
 pub mod Marks
 pub mod NamedLists

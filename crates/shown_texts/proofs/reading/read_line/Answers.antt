@@ -11,9 +11,8 @@ use Rattle.shown_texts.specs.ReadLines.{IsReadAs}
 text_read : (text : List ℕ) (most : ℕ) (s : Statement) → text ≡ line_text s → IsReadAs (line_text s) s → IsReadAs text s
 text_read text most s is read = subst (λ (t : List ℕ). IsReadAs t s) (sym is) read
 
-pub returns : goal.returns
-returns c = record {
-  shown = λ there rows a earlier s later sound covers keep stood split is short.
-      c.parse.ensures.only s
-      (text_read c.args.line.now c.args.most s is (line_among (shown there rows (a ∷ []) a) earlier s later (shown_read there rows a sound covers keep stood) split) c.args.most short);
-}
+pub returns-clause-shown : goal.returns-clause-shown
+returns-clause-shown c =
+    λ there rows a earlier s later sound covers keep stood split is short.
+    c.parse.ensures.only s
+    (text_read c.args.line.now c.args.most s is (line_among (shown there rows (a ∷ []) a) earlier s later (shown_read there rows a sound covers keep stood) split) c.args.most short)
