@@ -1,12 +1,12 @@
 -- A number given, taken away or given another name is an account that comes, goes or is renamed.
-use Rattle.std.proofs.Common.{◌≡◌, ◌∙◌, ap, subst, ℕ, Bool, true, false, cond, not, ◌&&◌, ◌||◌, ◌==◌, List, [], ◌∷◌, Option, Some, None, is_some, refl, sym, IsTrue}
+use Rattle.std.proofs.Common.{◌≡◌, ◌∙◌, ap, ℕ, Bool, true, false, cond, not, ◌&&◌, ◌||◌, ◌==◌, List, [], ◌∷◌, Option, Some, None, is_some, refl, sym}
 use Rattle.std.specs.Option.{option_map}
 use Rattle.std.proofs.Math.Bool.{and-true, or-false}
 use Rattle.std.proofs.lemmas.Bool.{true≢false, eq-eqb, eqb-true}
 use Rattle.acl_names.proofs.SameAuth.{equal_from_same_auth, same_auth_itself}
 use Rattle.acl_names.specs.AuthId.{same_auth}
 use Rattle.acl_names.specs.declared.auth.AuthId.{AuthId}
-use Rattle.account_holdings.specs.Holdings.{Holdings, HoldAlike, holds, names_number}
+use Rattle.account_holdings.specs.Holdings.{HoldAlike}
 use Rattle.account_holdings.specs.declared.holding.Holding.{Holding}
 use Rattle.account_holdings.specs.declared.holding.Holding.TheVariants as held
 use Rattle.account_holdings.specs.declared.globals.GlobalKind.TheVariants as kind
@@ -15,18 +15,17 @@ use Rattle.acl_model.specs.Accounts.{data_of_old, new_account}
 use Rattle.acl_model.specs.Effects.{stood_before}
 use Rattle.acl_model.specs.Renames.{before_pair, one_name, row_before, two_names}
 use Rattle.acl_model.specs.Rows.{same_row}
-use Rattle.acl_model.specs.State.{State}
 use Rattle.acl_model.specs.declared.account_data.AccountData.{AccountData}
 use Rattle.acl_model.specs.declared.row.Row.{Row}
 use Rattle.acl_model.specs.declared.row.Row.TheVariants.{Account, Global, Dynamic, DynamicGrant, Schema, Table, Column, Function, Procedure, Edge, Admin, Default, Restriction}
 use Rattle.acl_stmt.specs.declared.statement.Statement.TheVariants.{RenameUser}
 use Rattle.numbered_names.specs.Numbered.{ChangesOnly, HasEachOnce, IsNew, name_at}
 use Rattle.numbered_rows.specs.Conditions.{is_account}
-use Rattle.numbered_rows.specs.Numbering.{holding_of, holds_some, number_of, one_number, two_numbers}
+use Rattle.numbered_rows.specs.Numbering.{holds_some, number_of, one_number, two_numbers}
 use Rattle.numbered_rows.specs.RowChanges.{renamed, with_data, with_row, without_row}
 use Rattle.numbered_rows.specs.Tables.{ChangesDataOnly, IsUnused, Tables, data_of, has_row, known_at, state_of}
 use Rattle.numbered_rows.proofs.Matching.{first_named, first_of, in_parts, or_last, second_named, second_of, shape}
-use Rattle.numbered_rows.proofs.Numbers.{Names, named_at, none_found, number_added, number_before, number_is, number_removed, number_renamed, once_added, once_removed}
+use Rattle.numbered_rows.proofs.Numbers.{Names, named_at, none_found, number_added, number_before, number_is, number_removed, number_renamed, once_added}
 use Rattle.numbered_rows.proofs.States.{by_kind, grant_is_no_account, has_row-holding, same_state}
 
 and_last : (t : Bool) → (t && false) ≡ false

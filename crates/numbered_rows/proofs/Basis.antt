@@ -1,16 +1,14 @@
 -- Who may grant a dynamic privilege holds it, before each change and after it.
-use Rattle.std.proofs.Common.{◌≡◌, ◌∙◌, refl, sym, ap, subst, ℕ, Bool, true, false, not, ◌||◌, ◌&&◌, List, Option, None, Some, IsTrue}
+use Rattle.std.proofs.Common.{◌≡◌, ◌∙◌, refl, sym, ap, subst, ℕ, Bool, true, false, not, ◌||◌, ◌&&◌, Option, None, Some}
 use Rattle.std.proofs.Math.Bool.{and-true, or-false}
-use Rattle.std.proofs.lemmas.Bool.{and_from, and_parts, not-true, or_left, true≢false}
+use Rattle.std.proofs.lemmas.Bool.{and_parts, or_left, true≢false}
 use Rattle.account_holdings.proofs.SameHoldings.{equal_from_same_holding}
 use Rattle.account_holdings.specs.Holdings.{HoldAlike, Holdings, IsWith, IsWithout, holds, same_holding}
 use Rattle.account_holdings.specs.declared.globals.GlobalKind.TheVariants as kind
 use Rattle.account_holdings.specs.declared.holding.Holding.{Holding}
 use Rattle.account_holdings.specs.declared.holding.Holding.TheVariants as held
-use Rattle.acl_model.specs.State.{State}
 use Rattle.acl_model.specs.declared.row.Row.{Row}
 use Rattle.acl_model.specs.declared.row.Row.TheVariants.{Dynamic, DynamicGrant}
-use Rattle.acl_names.specs.declared.auth.AuthId.{AuthId}
 use Rattle.numbered_rows.proofs.Matching.{name_of, row_again, row_of}
 use Rattle.numbered_rows.proofs.Numbers.{Names}
 use Rattle.numbered_rows.specs.Conditions.{IsFreeToGo, IsReadyFor}

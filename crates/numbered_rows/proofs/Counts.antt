@@ -1,16 +1,16 @@
 -- What the tables count is what the limits speak of.
-use Rattle.std.proofs.Common.{◌≡◌, ◌∙◌, ◌⊎◌, ◌↔◌, refl, sym, ap, subst, ℕ, suc, zero, ◌+◌, ◌<◌, Bool, true, false, cond, ◌==◌, ◌||◌, ◌&&◌, not, List, [], ◌∷◌, ◌++◌, Option, None, Some, is_some, IsTrue, MatchBool, nat_lt, length, map, count_by, if◌then◌else◌, inl, inr, arith}
-use Rattle.std.specs.List.{All, AllPairs, list_any}
+use Rattle.std.proofs.Common.{◌≡◌, ◌∙◌, refl, sym, ap, ℕ, suc, zero, ◌+◌, Bool, true, false, cond, ◌||◌, not, List, [], ◌∷◌, Option, None, Some, is_some, IsTrue, MatchBool, nat_lt, length, count_by, if◌then◌else◌, arith}
+use Rattle.std.specs.List.{list_any}
 use Rattle.std.specs.Option.{option_map}
-use Rattle.std.proofs.lemmas.Bool.{true≢false, and_from, and_parts, eq-eqb, eqb-true, not_from_false}
+use Rattle.std.proofs.lemmas.Bool.{and_from, not_from_false}
 use Rattle.std.proofs.lemmas.List.Sums.{sum_by-cons}
 use Rattle.acl_names.proofs.SameAuth.{equal_from_same_auth, same_auth_itself}
 use Rattle.acl_names.specs.AuthId.{same_auth}
 use Rattle.acl_names.specs.declared.auth.AuthId.{AuthId}
 use Rattle.acl_model.specs.Counts.{HasMoreThan, ListsEachOnce}
-use Rattle.acl_model.specs.State.{State, stands}
+use Rattle.acl_model.specs.State.{stands}
 use Rattle.acl_stmt.specs.Lists.{all_differ_by}
-use Rattle.numbered_names.specs.Numbered.{HasEachOnce, is_name, name_at}
+use Rattle.numbered_names.specs.Numbered.{HasEachOnce, is_name}
 use Rattle.numbered_rows.specs.Numbering.{number_of}
 use Rattle.numbered_rows.specs.Tables.{Tables, state_of}
 use Rattle.numbered_rows.proofs.Counting.{is_over_limit}

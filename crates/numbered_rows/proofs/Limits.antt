@@ -1,7 +1,7 @@
 -- What the limits count: the entries of the tables, each once.
-use Rattle.std.proofs.Common.{◌≡◌, ◌∙◌, ◌⊎◌, ◌↔◌, ◌≤◌, refl, sym, ap, subst, ℕ, suc, zero, ◌+◌, ◌<◌, ◌^◌, Bool, true, false, ◌==◌, ◌||◌, ◌&&◌, not, List, [], ◌∷◌, ◌++◌, Option, None, Some, IsTrue, MatchBool, nat_lt, length, map, get_or, count_by, if◌then◌else◌, inl, inr, arith}
-use Rattle.std.specs.List.{All, AllPairs, Any, list_any}
-use Rattle.std.proofs.lemmas.Bool.{true≢false, and_from, and_parts, eq-eqb, eqb-true, not_from_false, not-true, or_left, or_parts, or_right}
+use Rattle.std.proofs.Common.{◌≡◌, ◌∙◌, ◌⊎◌, ◌≤◌, refl, sym, ap, subst, ℕ, suc, zero, ◌+◌, ◌<◌, Bool, true, false, ◌==◌, ◌||◌, List, [], ◌∷◌, ◌++◌, Option, None, Some, MatchBool, nat_lt, length, map, get_or, count_by, if◌then◌else◌, inl, inr, arith}
+use Rattle.std.specs.List.{All, AllPairs, list_any}
+use Rattle.std.proofs.lemmas.Bool.{true≢false, and_from, and_parts, eq-eqb, eqb-true, not_from_false, not-true, or_left, or_right}
 use Rattle.std.proofs.lemmas.List.{length-append, length-map}
 use Rattle.std.proofs.lemmas.List.Folds.{Any-from_list_any, list_any-append, list_any_at}
 use Rattle.std.proofs.lemmas.List.Sums.{sum_by-cons}
@@ -11,26 +11,23 @@ use Rattle.acl_names.specs.AuthId.{same_auth}
 use Rattle.acl_names.specs.Text.{text_eq}
 use Rattle.acl_names.specs.declared.auth.AuthId.{AuthId}
 use Rattle.account_holdings.specs.Bits.{has_bit}
-use Rattle.account_holdings.specs.Holdings.{Holdings, holds, names_number}
+use Rattle.account_holdings.specs.Holdings.{Holdings, holds}
 use Rattle.account_holdings.specs.declared.holding.Holding.{Holding}
 use Rattle.account_holdings.specs.declared.holding.Holding.TheVariants as held
 use Rattle.acl_model.proofs.SameRows.{equal_from_same_row, same_row_from_equal, same_row_itself}
 use Rattle.acl_model.specs.Counts.{HasMoreThan, IsEdgeInUse, IsObjectInUse, IsPairInUse, IsSchemaInUse, ListsEachOnce, same_pair}
 use Rattle.acl_model.specs.Rows.{same_row}
-use Rattle.acl_model.specs.State.{State}
 use Rattle.acl_model.specs.declared.row.Row.{Row}
-use Rattle.acl_model.specs.declared.row.Row.TheVariants.{Account, Global, Dynamic, DynamicGrant, Schema, Table, Column, Function, Procedure, Edge, Admin, Default, Restriction}
-use Rattle.acl_stmt.specs.Lists.{all_differ_by}
+use Rattle.acl_model.specs.declared.row.Row.TheVariants.{Table, Column, Function, Procedure, Edge, Default}
 use Rattle.held_bits.proofs.Readings.{bits_of_entry, entry_of_bits}
 use Rattle.held_bits.specs.Bits.{are_none}
 use Rattle.held_bits.specs.HeldBits.{Entry, IsSound, bits_at, is_entry, is_on, thing_count}
-use Rattle.held_bits.specs.declared.bits.Bits.{Bits}
 use Rattle.numbered_names.specs.Numbered.{HasEachOnce, name_at}
 use Rattle.numbered_rows.specs.Numbering.{holds_some, number_of, one_number, two_numbers}
 use Rattle.numbered_rows.specs.Tables.{IsNumberedWell, Tables, has_row, state_of}
 use Rattle.numbered_rows.proofs.Counting.{is_over_limit}
 use Rattle.numbered_rows.proofs.Entries.{any_mapped, any_things, decides, differ_appended, differ_mapped, keys_once, things_in, things_length, things_once}
-use Rattle.numbered_rows.proofs.Matching.{name_of, name_or_root, object_row, row_of}
+use Rattle.numbered_rows.proofs.Matching.{name_of, name_or_root, object_row}
 use Rattle.numbered_rows.proofs.Numbers.{Names, named_at, number_is}
 use Rattle.numbered_rows.proofs.SomeBits.{some_bit, some_from_granted, some_from_restricted}
 use Rattle.numbered_rows.proofs.Standing.{held_stand, row_stands}

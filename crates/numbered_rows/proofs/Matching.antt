@@ -1,5 +1,5 @@
 -- A row and what numbered accounts hold: each is found from the other.
-use Rattle.std.proofs.Common.{◌≡◌, ◌∙◌, refl, sym, ap, subst, ℕ, Bool, true, false, ◌==◌, ◌||◌, List, [], ◌∷◌, Option, None, Some}
+use Rattle.std.proofs.Common.{◌≡◌, ◌∙◌, refl, sym, ap, ℕ, Bool, true, false, ◌==◌, ◌||◌, Option, None, Some}
 use Rattle.std.proofs.lemmas.Bool.{true≢false, eq-eqb}
 use Rattle.acl_names.specs.declared.auth.AuthId.{AuthId}
 use Rattle.account_holdings.proofs.SameHoldings.{equal_from_same_holding, same_holding_itself}
@@ -9,16 +9,13 @@ use Rattle.account_holdings.specs.declared.holding.Holding.TheVariants as held
 use Rattle.account_holdings.specs.declared.globals.GlobalKind.TheVariants as kind
 use Rattle.acl_model.proofs.SameRows.{equal_from_same_row, same_row_itself}
 use Rattle.acl_model.specs.Rows.{same_row}
-use Rattle.acl_model.specs.State.{root}
 use Rattle.acl_model.specs.declared.row.Row.{Row}
 use Rattle.acl_model.specs.declared.row.Row.TheVariants.{Account, Global, Dynamic, DynamicGrant, Schema, Table, Column, Function, Procedure, Edge, Admin, Default, Restriction}
-use Rattle.numbered_names.specs.Numbered.{HasEachOnce, name_at}
 use Rattle.acl_names.specs.AuthId.{same_auth}
 use Rattle.numbered_rows.specs.Conditions.{is_account}
 pub use Rattle.numbered_rows.specs.NamedRows.{name_of, name_or_root, object_row, row_of}
 use Rattle.numbered_rows.specs.Numbering.{holding_of, number_of, one_number, two_numbers}
-use Rattle.numbered_rows.proofs.Numbers.{Names, named_at, number_is}
-use Rattle.object_bits.specs.declared.object.Object.{Object}
+use Rattle.numbered_rows.proofs.Numbers.{Names, named_at}
 use Rattle.object_bits.specs.declared.object.Object.TheVariants as object
 
 -- the accounts that a row names; twice the same where it names one

@@ -1,5 +1,5 @@
 -- The number of an account among names that differ.
-use Rattle.std.proofs.Common.{◌≡◌, ◌∙◌, refl, sym, ap, subst, ℕ, Bool, true, false, cond, suc, zero, ◌+◌, ◌==◌, List, [], ◌∷◌, ◌<◌, ◌≤◌, ◌↔◌, IfSome, length, IsTrue, inl, inr, Option, None, Some, arith}
+use Rattle.std.proofs.Common.{◌≡◌, ◌∙◌, refl, sym, ap, ℕ, Bool, true, false, cond, suc, zero, ◌+◌, ◌==◌, List, [], ◌∷◌, ◌<◌, ◌≤◌, ◌↔◌, IfSome, length, IsTrue, inl, inr, Option, None, Some, arith}
 use Rattle.std.specs.Option.{option_map}
 use Rattle.std.proofs.lemmas.Bool.{cases_lt, eq-eqb, eqb-true, true≢false}
 use Rattle.std.proofs.lemmas.Option.{same_Some}

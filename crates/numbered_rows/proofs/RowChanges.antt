@@ -1,17 +1,14 @@
 -- A holding more or less is a row more or less.
-use Rattle.std.proofs.Common.{◌≡◌, ◌∙◌, ap, Bool, true, false, not, ◌&&◌, ◌||◌, Option, Some, None, is_some, refl, sym, IsTrue}
+use Rattle.std.proofs.Common.{◌≡◌, ◌∙◌, ap, Bool, true, false, not, ◌&&◌, ◌||◌, Option, Some, None, refl, sym}
 use Rattle.std.proofs.Math.Bool.{and-true, or-false}
-use Rattle.std.proofs.lemmas.Bool.{true≢false}
-use Rattle.acl_names.specs.declared.auth.AuthId.{AuthId}
-use Rattle.account_holdings.specs.Holdings.{Holdings, HoldAlike, IsWith, IsWithout, holds, same_holding}
+use Rattle.account_holdings.specs.Holdings.{Holdings, HoldAlike, IsWith, IsWithout}
 use Rattle.account_holdings.specs.declared.holding.Holding.{Holding}
 use Rattle.acl_model.proofs.SameRows.{equal_from_same_row}
 use Rattle.acl_model.specs.Rows.{same_row}
-use Rattle.acl_model.specs.State.{State}
 use Rattle.acl_model.specs.declared.row.Row.{Row}
 use Rattle.acl_model.specs.declared.row.Row.TheVariants.{Account}
 use Rattle.numbered_rows.specs.Conditions.{is_account}
-use Rattle.numbered_rows.specs.Numbering.{holding_of, holds_some, number_of}
+use Rattle.numbered_rows.specs.Numbering.{holding_of, holds_some}
 use Rattle.numbered_rows.specs.RowChanges.{with_row, without_row}
 use Rattle.numbered_rows.specs.Tables.{Tables, has_row, state_of}
 use Rattle.numbered_rows.proofs.Matching.{same_by_holding, same_some}

@@ -1,5 +1,5 @@
 -- Bits that are not empty have a bit.
-use Rattle.std.proofs.Common.{◌≡◌, ◌∙◌, ◌⊎◌, refl, sym, ap, ℕ, zero, suc, ◌<◌, ◌≤◌, ◌^◌, Bool, true, false, ◌==◌, ◌&&◌, inl, inr, arith}
+use Rattle.std.proofs.Common.{◌≡◌, ◌∙◌, ◌⊎◌, refl, sym, ap, ℕ, zero, suc, ◌<◌, ◌^◌, Bool, true, false, ◌==◌, inl, inr, arith}
 use Rattle.std.proofs.lemmas.Bool.{true≢false, and_from, and_parts, cases_eq, cases_lt, eq-eqb, eqb-true}
 use Rattle.account_holdings.proofs.BitSets.{no_bit}
 use Rattle.account_holdings.specs.Bits.{has_bit}

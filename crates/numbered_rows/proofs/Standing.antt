@@ -1,6 +1,6 @@
 -- Whoever is named by what is held stands, before each change and after it.
-use Rattle.std.proofs.Common.{◌≡◌, ◌∙◌, ◌⊎◌, refl, sym, ap, subst, ℕ, Bool, true, false, cond, ◌==◌, ◌||◌, ◌&&◌, not, List, Option, None, Some, IsTrue, inl, inr}
-use Rattle.std.proofs.lemmas.Bool.{true≢false, eq-eqb, eqb-true, or_parts}
+use Rattle.std.proofs.Common.{◌≡◌, ◌∙◌, ◌⊎◌, refl, sym, ap, subst, ℕ, Bool, true, false, ◌==◌, ◌||◌, Option, None, Some, inl, inr}
+use Rattle.std.proofs.lemmas.Bool.{true≢false, eq-eqb, eqb-true}
 use Rattle.acl_names.proofs.SameAuth.{same_auth_itself}
 use Rattle.acl_names.specs.AuthId.{same_auth}
 use Rattle.acl_names.specs.declared.auth.AuthId.{AuthId}
@@ -10,9 +10,8 @@ use Rattle.account_holdings.specs.declared.globals.GlobalKind.TheVariants as kin
 use Rattle.account_holdings.specs.declared.holding.Holding.{Holding}
 use Rattle.account_holdings.specs.declared.holding.Holding.TheVariants as held
 use Rattle.acl_model.specs.Rows.{some_name}
-use Rattle.acl_model.specs.State.{State}
 use Rattle.acl_model.specs.declared.row.Row.{Row}
-use Rattle.acl_model.specs.declared.row.Row.TheVariants.{Account, Global, Dynamic, DynamicGrant, Schema, Table, Column, Function, Procedure, Edge, Admin, Default, Restriction}
+use Rattle.acl_model.specs.declared.row.Row.TheVariants.{Account, Edge, Admin, Default}
 use Rattle.numbered_names.specs.Numbered.{ChangesOnly, HasEachOnce, name_at}
 use Rattle.numbered_rows.specs.Conditions.{IsUnnamed, is_account}
 use Rattle.numbered_rows.specs.Numbering.{holding_of, holds_some, number_of, one_number, two_numbers}

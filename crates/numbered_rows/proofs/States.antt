@@ -1,5 +1,5 @@
 -- When two states are one, and rows that are no accounts.
-use Rattle.std.proofs.Common.{◌≡◌, ◌∙◌, ap, Bool, true, false, List, refl, sym, not, ◌||◌, ◌&&◌}
+use Rattle.std.proofs.Common.{◌≡◌, ◌∙◌, ap, Bool, true, false, refl, sym}
 use Rattle.std.proofs.lemmas.Bool.{true≢false}
 use Rattle.acl_names.specs.AuthId.{same_auth}
 use Rattle.acl_names.specs.declared.auth.AuthId.{AuthId}

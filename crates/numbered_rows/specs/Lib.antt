@@ -1,4 +1,5 @@
 pub mod Conditions
+pub mod Levels
 pub mod NamedRows
 pub mod Numbering
 pub mod RowChanges

@@ -1,5 +1,5 @@
 -- What becomes of the holdings as a row comes or goes.
-use Rattle.std.specs.Prelude.{Bool, false, ◌≡◌, Option, None, Some}
+use Rattle.std.specs.Prelude.{false, ◌≡◌, Option, None, Some}
 use Rattle.account_holdings.specs.Holdings.{HoldAlike, Holdings, IsWith, IsWithout}
 use Rattle.account_holdings.specs.declared.holding.Holding.{Holding}
 use Rattle.account_holdings.specs.declared.holding.Holding.TheVariants as held

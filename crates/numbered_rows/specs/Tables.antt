@@ -14,6 +14,7 @@ use Rattle.acl_model.specs.declared.row.Row.TheVariants.{Account}
 use Rattle.acl_names.specs.AuthId.{same_auth}
 use Rattle.acl_names.specs.declared.auth.AuthId.{AuthId}
 use Rattle.numbered_names.specs.Numbered.{HasEachOnce, Numbered, name_at}
+use Rattle.numbered_rows.specs.Levels.{is_at_its_level}
 use Rattle.numbered_rows.specs.Numbering.{holding_of, holds_some, number_of}
 
 pub record Tables : Type 0 where
@@ -68,8 +69,12 @@ abbrev pub HaveBasis : Holdings → Type 0
 HaveBasis holdings =
     (number privilege : ℕ) → IsTrue (holds holdings (OnAll Grantable number privilege)) → IsTrue (holds holdings (OnAll Dynamic number privilege))
 
--- tables in which names differ, each account has its data and its place among the holdings, whoever is named stands, and who may
--- grant a privilege holds it
+-- each privilege is held at a level that it has
+abbrev pub HaveLevels : Holdings → Type 0
+HaveLevels holdings = (holding : Holding) → IsTrue (holds holdings holding) → IsTrue (is_at_its_level holding)
+
+-- tables in which names differ, each account has its data and its place among the holdings, whoever is named stands, who may
+-- grant a privilege holds it, and privileges are held at their levels
 pub record AreSound (tables : Tables) : Type 0 where
   pub once : HasEachOnce same_auth tables.accounts.names
   pub few : length tables.accounts.names ≤ 4096
@@ -77,3 +82,4 @@ pub record AreSound (tables : Tables) : Type 0 where
   pub counted : length tables.holdings.globals ≡ length tables.accounts.names
   pub well : IsNumberedWell tables.accounts.names tables.holdings
   pub basis : HaveBasis tables.holdings
+  pub levels : HaveLevels tables.holdings

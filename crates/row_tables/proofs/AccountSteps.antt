@@ -1,27 +1,28 @@
 -- Accounts that come, go, are renamed and get other data.
-use Rattle.std.proofs.Common.{◌≡◌, ◌∙◌, refl, sym, ap, subst, ℕ, zero, suc, ◌<◌, ◌≤◌, ◌+◌, ◌-◌, Bool, true, false, cond, not, ◌==◌, ◌&&◌, ◌||◌, List, [], ◌∷◌, length, max, count_by, nat_lt, Option, None, Some, is_some, IsSome, IsTrue, MatchBool, if◌then◌else◌, inl, inr, arith}
+use Rattle.std.proofs.Common.{◌≡◌, ◌∙◌, refl, sym, ap, subst, ℕ, zero, suc, ◌<◌, ◌≤◌, ◌+◌, Bool, true, false, cond, not, ◌&&◌, ◌||◌, List, [], ◌∷◌, length, max, count_by, Option, None, Some, is_some, IsSome, IsTrue, MatchBool, if◌then◌else◌, inl, inr, arith}
 use Rattle.std.specs.Option.{option_map}
-use Rattle.std.proofs.lemmas.Bool.{cases_eq, cases_lt, eq-eqb, ne_eqb, true≢false, lt-ltb}
+use Rattle.std.proofs.lemmas.Bool.{cases_lt, true≢false, lt-ltb}
 use Rattle.std.proofs.lemmas.List.Sums.{sum_by-cons}
 use Rattle.std.proofs.Math.Bool.{and-true, or-false}
-use Rattle.account_holdings.specs.Holdings.{HoldAlike, Holdings}
+use Rattle.account_holdings.specs.Holdings.{HoldAlike}
 use Rattle.acl_model.proofs.SameRows.{equal_from_same_row}
 use Rattle.acl_model.specs.Accounts.{new_account}
 use Rattle.acl_model.specs.Counts.{HasMoreThan}
 use Rattle.acl_model.specs.Rows.{same_row}
-use Rattle.acl_model.specs.State.{State, stands}
+use Rattle.acl_model.specs.State.{stands}
 use Rattle.acl_model.specs.declared.account_data.AccountData.{AccountData}
 use Rattle.acl_model.specs.declared.row.Row.{Row}
 use Rattle.acl_model.specs.declared.row.Row.TheVariants.{Account}
-use Rattle.acl_names.proofs.SameAuth.{equal_from_same_auth, same_auth_itself}
+use Rattle.acl_names.proofs.SameAuth.{equal_from_same_auth}
 use Rattle.acl_names.specs.AuthId.{same_auth}
 use Rattle.acl_names.specs.declared.auth.AuthId.{AuthId}
-use Rattle.numbered_names.specs.Numbered.{ChangesOnly, HasEachOnce, IsNew, Numbered, is_name, name_at}
+use Rattle.numbered_names.specs.Numbered.{ChangesOnly, IsNew, Numbered, name_at}
 use Rattle.numbered_rows.proofs.AccountChanges.{account_comes, account_goes, account_renamed, data_changes}
 use Rattle.numbered_rows.proofs.Basis.{basis_alike}
+use Rattle.numbered_rows.proofs.Levels.{levels_alike}
 use Rattle.numbered_rows.proofs.Counts.{over_accounts}
 use Rattle.numbered_rows.proofs.Matching.{or_last}
-use Rattle.numbered_rows.proofs.Numbers.{Names, named_at, named_itself, number_none, once_added, once_removed, once_renamed}
+use Rattle.numbered_rows.proofs.Numbers.{Names, named_at, number_none, once_added, once_removed, once_renamed}
 use Rattle.numbered_rows.proofs.Standing.{unused_from_unnamed, well_alike, well_named, well_removed}
 use Rattle.numbered_rows.proofs.States.{same_state}
 use Rattle.numbered_rows.specs.Conditions.{HasRoom, IsUnnamed}
@@ -110,6 +111,7 @@ module _ (old new : Tables) (sound : AreSound old) (a : AuthId) (number : ℕ) (
     counted = globals_len ∙ ap (λ n. max n (number + 1)) sound.counted ∙ sym len;
     well = well_named old.accounts.names new.accounts.names number new.holdings a only (well_alike old.accounts.names old.holdings new.holdings alike sound.well);
     basis = basis_alike old.holdings new.holdings alike sound.basis;
+    levels = levels_alike old.holdings new.holdings alike sound.levels;
   }
 
   came_state : ChangesDataOnly old.account_data new.account_data number new_account → new.mandatory ≡ old.mandatory → new.activate_all ≡ old.activate_all
@@ -166,6 +168,7 @@ module _ (old now : Tables) (seen : old ≡ now) (sound : AreSound old) where
       counted = sound.counted ∙ sym len;
       well = well_removed old.accounts.names accounts.names number old.holdings only gone_unused sound.well;
       basis = sound.basis;
+      levels = sound.levels;
     }
 
     pub gone_state : state_of (record old { accounts = accounts }) ≡ without_row (Account a) (state_of now)
@@ -193,6 +196,7 @@ module _ (old now : Tables) (seen : old ≡ now) (sound : AreSound old) where
         counted = sound.counted ∙ sym len;
         well = well_named old.accounts.names accounts.names number old.holdings c only sound.well;
         basis = sound.basis;
+        levels = sound.levels;
       }
 
       pub renamed_state : state_of (record old { accounts = accounts }) ≡ renamed a c (state_of now)

@@ -1,21 +1,20 @@
 -- Tables that are seen alike.
-use Rattle.std.proofs.Common.{◌≡◌, ◌∙◌, refl, sym, ap, subst, ℕ, ◌<◌, ◌≤◌, Bool, true, false, not, List, length, count_by, nat_lt, Option, None, Some, is_some, IsTrue, MatchBool, inl, inr, arith}
+use Rattle.std.proofs.Common.{◌≡◌, ◌∙◌, refl, sym, ap, subst, ℕ, ◌≤◌, Bool, length, count_by, nat_lt, Option, None, Some, is_some, IsTrue, MatchBool, inl, inr, arith}
 use Rattle.std.specs.Option.{option_map}
 use Rattle.std.proofs.lemmas.Bool.{cases_lt, le-ltb, lt-ltb}
-use Rattle.account_holdings.specs.Holdings.{HoldAlike, Holdings}
+use Rattle.account_holdings.specs.Holdings.{HoldAlike}
 use Rattle.account_holdings.specs.declared.holding.Holding.{Holding}
 use Rattle.acl_model.specs.Counts.{HasMoreThan, IsExceeded}
-use Rattle.acl_model.specs.State.{State, stands}
-use Rattle.acl_model.specs.declared.row.Row.{Row}
-use Rattle.acl_model.specs.declared.row.Row.TheVariants.{Account}
+use Rattle.acl_model.specs.State.{stands}
 use Rattle.acl_names.specs.AuthId.{same_auth}
 use Rattle.acl_stmt.specs.declared.refusal.Full.{Full}
 use Rattle.numbered_rows.proofs.Basis.{basis_alike}
 use Rattle.numbered_rows.proofs.Counts.{over_accounts}
+use Rattle.numbered_rows.proofs.Levels.{levels_alike}
 use Rattle.numbered_rows.proofs.Standing.{well_alike}
 use Rattle.numbered_rows.proofs.States.{by_kind, has_row-holding, same_state}
 use Rattle.numbered_names.specs.Numbered.{HasEachOnce}
-use Rattle.numbered_rows.specs.Conditions.{HasRoom, is_account}
+use Rattle.numbered_rows.specs.Conditions.{HasRoom}
 use Rattle.numbered_rows.specs.Numbering.{holding_of, holds_some, number_of}
 use Rattle.numbered_rows.specs.Tables.{AreSound, IsNumberedWell, Tables, has_row, known_at, state_of}
 
@@ -40,6 +39,7 @@ module _ (old new : Tables) (names : new.accounts.names ≡ old.accounts.names) 
     counted = counted ∙ sound.counted ∙ sym (ap length names);
     well = subst (λ ns. IsNumberedWell ns new.holdings) (sym names) (well_alike old.accounts.names old.holdings new.holdings alike sound.well);
     basis = basis_alike old.holdings new.holdings alike sound.basis;
+    levels = levels_alike old.holdings new.holdings alike sound.levels;
   }
 
 -- what is told of the tables is told of what they are seen as

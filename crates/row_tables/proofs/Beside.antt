@@ -1,11 +1,13 @@
--- The right to grant stands beside what may be granted.
-use Rattle.std.proofs.Common.{◌≡◌, ◌∙◌, ap, subst, ℕ, Bool, true, false, ◌||◌, ◌&&◌, List, [], ◌∷◌, Option, None, Some, IsTrue}
+-- The right to grant stands beside what may be granted, and each row has its level.
+use Rattle.std.proofs.Common.{◌≡◌, subst, ℕ, true, Option, None, Some, IsTrue}
 use Rattle.account_holdings.proofs.Roles.{granted_with_admin}
 use Rattle.account_holdings.specs.declared.globals.GlobalKind.TheVariants as kind
 use Rattle.account_holdings.specs.declared.holding.Holding.TheVariants as held
-use Rattle.acl_model.specs.State.{State}
+use Rattle.acl_model.specs.declared.row.Row.{Row}
 use Rattle.acl_model.specs.declared.row.Row.TheVariants.{Admin, Dynamic, DynamicGrant, Edge}
 use Rattle.acl_names.specs.declared.auth.AuthId.{AuthId}
+use Rattle.numbered_rows.proofs.Levels.{row_level}
+use Rattle.numbered_rows.specs.Conditions.{has_its_level}
 use Rattle.numbered_rows.specs.Numbering.{holds_some, number_of, one_number, two_numbers}
 use Rattle.numbered_rows.specs.Tables.{AreSound, Tables, state_of}
 
@@ -31,3 +33,8 @@ module _ (tables now : Tables) (seen : tables ≡ now) (sound : AreSound tables)
   role_beside role to =
       let P : Tables → Type 0 = λ t. IsTrue ((state_of t).rows (Admin role to)) → IsTrue ((state_of t).rows (Edge role to)) in
       subst P seen (two_beside (number_of tables.accounts.names role) (number_of tables.accounts.names to))
+
+  pub level_of_each : (row : Row) → IsTrue ((state_of now).rows row) → IsTrue (has_its_level row)
+  unfolding state_of
+  level_of_each row =
+      subst (λ t. IsTrue ((state_of t).rows row) → IsTrue (has_its_level row)) seen (row_level tables sound.levels row)

@@ -1,28 +1,28 @@
 -- Rows that are no accounts come and go among the holdings.
-use Rattle.std.proofs.Common.{◌≡◌, ◌∙◌, refl, sym, ap, subst, ℕ, Bool, true, false, ◌==◌, ◌&&◌, List, length, Option, None, Some, is_some, IsTrue}
-use Rattle.std.proofs.lemmas.Bool.{and_parts, eq-eqb, true≢false}
-use Rattle.account_holdings.specs.Holdings.{Holdings, holds}
+use Rattle.std.proofs.Common.{◌≡◌, ◌∙◌, refl, sym, ap, subst, ℕ, true, false, length, Option, None, Some, is_some}
+use Rattle.std.proofs.lemmas.Bool.{and_parts}
+use Rattle.account_holdings.specs.Holdings.{Holdings}
 use Rattle.account_holdings.specs.declared.globals.GlobalKind.TheVariants as kind
 use Rattle.account_holdings.specs.declared.holding.Holding.{Holding}
 use Rattle.account_holdings.specs.declared.holding.Holding.TheVariants as held
 use Rattle.acl_model.specs.Roles.{Reaches, Onward, Here}
-use Rattle.acl_model.specs.State.{State}
 use Rattle.acl_model.specs.declared.row.Row.{Row}
 use Rattle.acl_model.specs.declared.row.Row.TheVariants.{Account, Global, Dynamic, DynamicGrant, Schema, Table, Column, Function, Procedure, Edge, Admin, Default, Restriction}
 use Rattle.acl_names.specs.declared.auth.AuthId.{AuthId}
 use Rattle.row_tables.specs.Held.{IsReadyHeld}
 use Rattle.numbered_rows.proofs.Basis.{basis_alike, basis_comes, basis_goes}
+use Rattle.numbered_rows.proofs.Levels.{level_of_row, levels_alike, levels_come, levels_go}
 use Rattle.numbered_rows.proofs.Matching.{name_of, name_or_root}
 use Rattle.numbered_rows.proofs.Numbers.{Names, named_at}
 use Rattle.numbered_rows.proofs.RowChanges.{alike_state, none_goes, row_comes, row_goes}
 use Rattle.numbered_rows.proofs.Standing.{row_stands, well_alike, well_with, well_without}
-use Rattle.numbered_rows.specs.Conditions.{IsFreeToGo, IsReadyFor, is_account, names_stand}
+use Rattle.numbered_rows.specs.Conditions.{IsFreeToGo, IsReadyFor, has_its_level, is_account, names_stand}
 use Rattle.numbered_rows.specs.Numbering.{holding_of, holds_some, number_of, one_number, two_numbers}
 use Rattle.numbered_rows.specs.RowChanges.{with_row, without_row}
 use Rattle.numbered_rows.specs.Steps.{Comes, Goes, MayGo}
-use Rattle.numbered_rows.specs.Tables.{AreSound, HaveBasis, IsNumberedWell, Tables, state_of}
+use Rattle.numbered_rows.specs.Tables.{AreSound, HaveBasis, HaveLevels, IsNumberedWell, Tables, state_of}
 use Rattle.object_bits.specs.declared.object.Object.TheVariants as object
-use Rattle.role_graph.specs.Edges.{granted, with_admin}
+use Rattle.role_graph.specs.Edges.{granted}
 use Rattle.role_graph.specs.Paths.{Reaches as Leads, all_reached}
 
 -- ---- the holding of a row whose accounts stand
@@ -158,8 +158,8 @@ module _ (tables : Tables) (sound : AreSound tables) where
         let h = stand_holding tables row other stand in
         row_comes tables holdings row h.0 h.1 (subst (Comes tables.holdings holdings) h.1 comes)
 
-    comes_sound : names_stand (state_of tables) row ≡ true → IsReadyFor (state_of tables) row → Comes tables.holdings holdings (holding_of names row) → AreSound after
-    comes_sound stand ready comes =
+    comes_sound : names_stand (state_of tables) row ≡ true → has_its_level row ≡ true → IsReadyFor (state_of tables) row → Comes tables.holdings holdings (holding_of names row) → AreSound after
+    comes_sound stand level ready comes =
         let h = stand_holding tables row other stand in
         record {
           once = sound.once;
@@ -168,6 +168,7 @@ module _ (tables : Tables) (sound : AreSound tables) where
           counted = same ∙ sound.counted;
           well = well_with names tables.holdings holdings h.0 row other h.1 (subst (Comes tables.holdings holdings) h.1 comes) sound.well;
           basis = basis_comes tables holdings row h.0 h.1 ready (subst (Comes tables.holdings holdings) h.1 comes) sound.basis;
+          levels = levels_come tables.holdings holdings h.0 (level_of_row names row h.0 h.1 ∙ level) (subst (Comes tables.holdings holdings) h.1 comes) sound.levels;
         }
 
     goes_sound : IsFreeToGo (state_of tables) row → Goes tables.holdings holdings (holding_of names row) → AreSound after
@@ -178,6 +179,7 @@ module _ (tables : Tables) (sound : AreSound tables) where
       counted = same ∙ sound.counted;
       well = by (holding_of names row) goes;
       basis = based (holding_of names row) refl goes;
+      levels = leveled (holding_of names row) goes;
     }
       where
         by : (o : Option Holding) → Goes tables.holdings holdings o → IsNumberedWell names holdings
@@ -187,6 +189,10 @@ module _ (tables : Tables) (sound : AreSound tables) where
         based : (o : Option Holding) → holding_of names row ≡ o → Goes tables.holdings holdings o → HaveBasis holdings
         based None is goes = basis_alike tables.holdings holdings goes sound.basis
         based (Some h) is goes = basis_goes tables holdings row h is free goes sound.basis
+
+        leveled : (o : Option Holding) → Goes tables.holdings holdings o → HaveLevels holdings
+        leveled None goes = levels_alike tables.holdings holdings goes sound.levels
+        leveled (Some h) goes = levels_go tables.holdings holdings h goes sound.levels
 
     goes_state : Goes tables.holdings holdings (holding_of names row) → state_of after ≡ without_row row (state_of tables)
     goes_state goes = by (holding_of names row) refl goes
@@ -210,9 +216,9 @@ module _ (tables now : Tables) (seen : tables ≡ now) (sound : AreSound tables)
     put_state stand comes =
         comes_state tables sound row other holdings same (ap (λ t. names_stand (state_of t) row) seen ∙ stand) comes ∙ ap (λ t. with_row row (state_of t)) seen
 
-    pub put_sound : names_stand (state_of now) row ≡ true → IsReadyFor (state_of now) row → Comes tables.holdings holdings (holding_of tables.accounts.names row) → AreSound (record tables { holdings = holdings })
-    put_sound stand ready comes =
-        comes_sound tables sound row other holdings same (ap (λ t. names_stand (state_of t) row) seen ∙ stand)
+    pub put_sound : names_stand (state_of now) row ≡ true → has_its_level row ≡ true → IsReadyFor (state_of now) row → Comes tables.holdings holdings (holding_of tables.accounts.names row) → AreSound (record tables { holdings = holdings })
+    put_sound stand level ready comes =
+        comes_sound tables sound row other holdings same (ap (λ t. names_stand (state_of t) row) seen ∙ stand) level
         (subst (λ t. IsReadyFor (state_of t) row) (sym seen) ready) comes
 
     pub take_state : Goes tables.holdings holdings (holding_of tables.accounts.names row) → state_of (record tables { holdings = holdings }) ≡ without_row row (state_of now)

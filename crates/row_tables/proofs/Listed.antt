@@ -1,18 +1,15 @@
 -- Rows of listed holdings.
-use Rattle.std.proofs.Common.{◌≡◌, ◌∙◌, ◌⊎◌, refl, sym, ap, subst, ℕ, Bool, true, false, ◌==◌, ◌||◌, ◌&&◌, List, [], ◌∷◌, ◌++◌, map, Option, None, Some, is_some, IsTrue, length, get_or, ◌<◌, inl, inr}
-use Rattle.std.specs.List.{All, IsDistinct, list_any}
-use Rattle.std.proofs.lemmas.Bool.{and_parts, eq-eqb, eqb-true, or_left, true≢false}
+use Rattle.std.proofs.Common.{◌≡◌, ◌∙◌, ◌⊎◌, refl, sym, ap, ℕ, Bool, true, false, ◌==◌, ◌||◌, ◌&&◌, List, [], ◌∷◌, ◌++◌, map, Option, None, Some, is_some, length, get_or, ◌<◌, inl, inr}
+use Rattle.std.specs.List.{list_any}
+use Rattle.std.proofs.lemmas.Bool.{and_parts, eq-eqb, eqb-true, true≢false}
 use Rattle.std.proofs.lemmas.List.Folds.{Any-from_list_any, list_any-append, list_any-from_Any}
 use Rattle.std.proofs.lemmas.Option.{same_Some}
 use Rattle.std.proofs.Math.Bool.{or-false}
 use Rattle.account_holdings.proofs.SameHoldings.{equal_from_same_holding, same_holding_itself}
 use Rattle.account_holdings.specs.Holdings.{holds, names_number, same_holding}
-use Rattle.account_holdings.specs.declared.globals.GlobalKind.TheVariants as kind
 use Rattle.account_holdings.specs.declared.holding.Holding.{Holding}
-use Rattle.account_holdings.specs.declared.holding.Holding.TheVariants as held
-use Rattle.acl_model.proofs.SameRows.{equal_from_same_row, same_row_from_equal, same_row_itself}
+use Rattle.acl_model.proofs.SameRows.{equal_from_same_row, same_row_from_equal}
 use Rattle.acl_model.specs.Rows.{holder, same_row, some_name}
-use Rattle.acl_model.specs.State.{State}
 use Rattle.acl_model.specs.declared.row.Row.{Row}
 use Rattle.acl_model.specs.declared.row.Row.TheVariants.{Account, Global, Dynamic, DynamicGrant, Schema, Table, Column, Function, Procedure, Edge, Admin, Default, Restriction}
 use Rattle.acl_names.proofs.SameAuth.{equal_from_same_auth, same_auth_itself}
@@ -21,9 +18,9 @@ use Rattle.acl_names.specs.declared.auth.AuthId.{AuthId}
 use Rattle.holding_lists.specs.Holders.{holder_of}
 use Rattle.numbered_names.specs.Numbered.{IsListOf, is_name, name_at}
 use Rattle.numbered_rows.proofs.Entries.{any_mapped, decides}
-use Rattle.numbered_rows.proofs.Matching.{first_of, in_parts, row_again, same_by_holding, same_some, second_of, shape}
+use Rattle.numbered_rows.proofs.Matching.{first_of, in_parts, row_again, second_of, shape}
 use Rattle.numbered_rows.proofs.Numbers.{Names, named_at, number_none}
-use Rattle.numbered_rows.proofs.Standing.{held_stand, holding_again, no_account_row, row_stands}
+use Rattle.numbered_rows.proofs.Standing.{held_stand, holding_again}
 use Rattle.numbered_rows.proofs.States.{by_kind, grant_is_no_account, has_row-holding}
 use Rattle.numbered_rows.specs.Conditions.{is_account}
 use Rattle.numbered_rows.specs.NamedRows.{row_of}

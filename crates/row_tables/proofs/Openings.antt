@@ -153,6 +153,7 @@ empty_sound t none known globals schemas objects roles defaults = record {
   counted = ap length globals ∙ sym (ap length none);
   well = λ n free h named. nothing_held t.holdings globals schemas objects roles defaults h;
   basis = λ n d there. absurd (true≢false (sym there ∙ nothing_held t.holdings globals schemas objects roles defaults (held.OnAll kind.Grantable n d)));
+  levels = λ h there. absurd (true≢false (sym there ∙ nothing_held t.holdings globals schemas objects roles defaults h));
 }
 
 -- there is room where no account stands

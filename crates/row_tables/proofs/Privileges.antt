@@ -1,5 +1,5 @@
 -- Privileges at their levels have numbers below 32.
-use Rattle.std.proofs.Common.{◌≡◌, ◌∙◌, sym, ℕ, ◌<◌, true, IsTrue, inl, inr, arith}
+use Rattle.std.proofs.Common.{◌∙◌, sym, ℕ, ◌<◌, IsTrue, inl, inr, arith}
 use Rattle.std.proofs.lemmas.Bool.{cases_lt, true≢false}
 use Rattle.priv_sets.proofs.LevelLemmas.{no_level_above}
 use Rattle.priv_sets.specs.Levels.{has_level}

@@ -1,5 +1,5 @@
 -- Room for the rows of a list.
-use Rattle.std.proofs.Common.{◌≡◌, ℕ, ◌<◌, ◌≤◌, ◌+◌, ◌-◌, false, refl, List, arith}
+use Rattle.std.proofs.Common.{◌≡◌, ℕ, ◌<◌, ◌+◌, ◌-◌, false, refl, List, arith}
 use Rattle.acl_model.specs.declared.row.Row.{Row}
 use Rattle.acl_model.specs.declared.row.Row.TheVariants.{Account, Global, Dynamic, DynamicGrant, Schema, Table, Column, Function, Procedure, Edge, Admin, Default, Restriction}
 use Rattle.acl_model.specs.State.{State}

@@ -1,8 +1,8 @@
 -- When what a row says may come among the holdings.
-use Rattle.std.specs.Prelude.{Bool, ◌<◌, IsTrue, Option, None, Some}
+use Rattle.std.specs.Prelude.{◌<◌, IsTrue, Option, Some}
 use Rattle.account_holdings.specs.Holdings.{Holdings}
 use Rattle.account_holdings.specs.declared.holding.Holding.{Holding}
-use Rattle.account_holdings.specs.declared.holding.Holding.TheVariants.{OnAll, OnSchema, Restricted, OnObject, Edge, Admin, Default}
+use Rattle.account_holdings.specs.declared.holding.Holding.TheVariants.{OnSchema, Restricted, OnObject, Edge, Admin, Default}
 use Rattle.role_graph.specs.Edges.{granted}
 use Rattle.role_graph.specs.Paths.{Reaches}
 

@@ -1,7 +1,7 @@
 -- How many more rows fit without memory.
 use Rattle.std.specs.Prelude.{ℕ, ◌<◌, ◌≤◌, ◌+◌, min}
 use Rattle.acl_model.specs.declared.row.Row.{Row}
-use Rattle.acl_model.specs.declared.row.Row.TheVariants.{Account, Global, Dynamic, DynamicGrant, Schema, Table, Column, Function, Procedure, Edge, Admin, Default, Restriction}
+use Rattle.acl_model.specs.declared.row.Row.TheVariants.{Account, Schema, Table, Column, Function, Procedure, Edge, Admin, Default, Restriction}
 use Rattle.row_tables.specs.declared.room.Room.{Room}
 use Rattle.numbered_rows.specs.Tables.{Tables}
 

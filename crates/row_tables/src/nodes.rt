@@ -1,8 +1,10 @@
 //! Accounts as nodes of the graph of roles.
 ghost use Rattle.std.specs.Prelude.{◌≡◌, ◌<◌, IfSome, IsTrue, Some};
 ghost use Rattle.std.specs.Option.{option_copied};
+ghost use Rattle.acl_model.specs.declared.row.Row.{Row as RowValue};
 ghost use Rattle.acl_model.specs.declared.row.Row.TheVariants.{Admin as AdminRow, Dynamic as DynamicRow, DynamicGrant as DynamicGrantRow, Edge as EdgeRow};
 ghost use Rattle.acl_names.specs.declared.auth.AuthId.{AuthId as AuthIdValue};
+ghost use Rattle.row_tables.specs.Conditions.{has_its_level};
 ghost use Rattle.row_tables.specs.Tables.{state_of};
 ghost use Rattle.numbered_names.specs.Numbered.{name_at};
 ghost use Rattle.numbered_rows.specs.Numbering.{number_of as number_in};
@@ -50,6 +52,12 @@ impl Rows {
             IsTrue ((state_of self.now).rows (DynamicRow a d)) }
         ensures roles { (role to : AuthIdValue) → IsTrue ((state_of self.now).rows (AdminRow role to)) →
             IsTrue ((state_of self.now).rows (EdgeRow role to)) }
+    {
+        let _ = &self.holdings;
+    }
+    /// The law that each row's privilege has the level of the row. It does nothing when it runs.
+    pub fn rows_have_levels(&self)
+        ensures { (row : RowValue) → IsTrue ((state_of self.now).rows row) → IsTrue (has_its_level row) }
     {
         let _ = &self.holdings;
     }

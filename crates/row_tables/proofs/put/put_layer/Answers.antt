@@ -2,7 +2,7 @@ use Rattle.std.proofs.Common.{◌∙◌, ◌<◌, [], length, sym, arith}
 use Rattle.row_tables.specs.Tables.{state_of}
 use Rattle.row_tables.specs.Layers.{is_in}
 use Rattle.row_tables.specs.Rooms.{room_of}
-use Rattle.row_tables.proofs.RoomLeft.{fits_next, fits_one, fits_skip, fits_start, ready_is_grant}
+use Rattle.row_tables.proofs.RoomLeft.{fits_next, fits_one, fits_start, ready_is_grant}
 use Rattle.row_tables.proofs.Coming.{puts_more, ready_at, ready_copy, ready_for, with_none}
 use Rattle.row_tables.proofs.put.put_layer.Goals as goal
 

@@ -1,11 +1,10 @@
-use Rattle.std.proofs.Common.{◌∙◌, ◌==◌, ◌&&◌, ap, sym, subst, List, Bool}
+use Rattle.std.proofs.Common.{◌∙◌, ap, sym, List}
 use Rattle.std.proofs.lemmas.Result.{IfOk-weaker}
 use Rattle.std.specs.List.{list_any}
-use Rattle.account_holdings.specs.Holdings.{holds, same_holding}
+use Rattle.account_holdings.specs.Holdings.{same_holding}
 use Rattle.account_holdings.specs.declared.holding.Holding.{Holding}
 use Rattle.acl_model.specs.Rows.{same_row}
 use Rattle.acl_model.specs.declared.row.Row.{Row}
-use Rattle.holding_lists.specs.Holders.{holder_of}
 use Rattle.numbered_rows.specs.Numbering.{number_of}
 use Rattle.row_tables.proofs.Listed.{no_own_rows, own_rows}
 use Rattle.row_tables.specs.contracts.rows.Rows.{the_view}

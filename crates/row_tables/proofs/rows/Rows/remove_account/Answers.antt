@@ -1,4 +1,4 @@
-use Rattle.std.proofs.Common.{◌∙◌, ap, sym, refl, Some, None}
+use Rattle.std.proofs.Common.{◌∙◌, ap, sym}
 use Rattle.row_tables.proofs.AccountSteps.{account_absent, gone_sound, gone_state}
 use Rattle.row_tables.specs.contracts.rows.Rows.{the_view}
 use Rattle.row_tables.specs.Tables.{state_of}

@@ -1,4 +1,4 @@
-use Rattle.std.proofs.Common.{◌∙◌, ap, sym, refl, Some, None}
+use Rattle.std.proofs.Common.{◌∙◌, ap, sym}
 use Rattle.row_tables.proofs.AccountSteps.{found_none, renamed_new, renamed_sound, renamed_stands, renamed_state}
 use Rattle.row_tables.specs.contracts.rows.Rows.{the_view}
 use Rattle.numbered_rows.specs.Numbering.{number_of}

@@ -1,6 +1,6 @@
-use Rattle.std.proofs.Common.{◌∙◌, ◌==◌, ◌&&◌, ap, sym, subst, List, Bool}
+use Rattle.std.proofs.Common.{◌∙◌, ap, sym, List}
 use Rattle.std.specs.List.{list_any}
-use Rattle.account_holdings.specs.Holdings.{holds, names_number, same_holding}
+use Rattle.account_holdings.specs.Holdings.{same_holding}
 use Rattle.account_holdings.specs.declared.holding.Holding.{Holding}
 use Rattle.acl_model.specs.Rows.{same_row}
 use Rattle.acl_model.specs.declared.row.Row.{Row}

@@ -1,5 +1,5 @@
 use Rattle.std.specs.Prelude.{vec_capacity, vec_len}
-use Rattle.std.proofs.Common.{◌-◌, ◌∙◌, ap, sym, refl, Some, None}
+use Rattle.std.proofs.Common.{◌-◌, ◌∙◌, ap, sym}
 use Rattle.row_tables.proofs.AccountSteps.{data_state, found_none}
 use Rattle.row_tables.specs.contracts.rows.Rows.{the_view}
 use Rattle.numbered_rows.specs.Numbering.{number_of}
