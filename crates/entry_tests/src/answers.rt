@@ -1,6 +1,5 @@
 //! How bytes are read.
-ghost use Rattle.std.specs.Prelude.{length};
-ghost use Rattle.entry_bytes.specs.Spelling.{HasText, IsNumber};
+ghost use Rattle.entry_bytes.specs.Spelling.{HasBytes};
 
 use acl_stmt::Entry;
 use entry_bytes::encode;
@@ -31,8 +30,7 @@ pub(crate) fn read_as(alloc: Global, bytes: &[u8]) -> Answer {
 }
 
 fn again(alloc: Global, entry: &Entry, bytes: &[u8]) -> Answer
-    requires text { HasText entry.now.statement }
-    requires count { IsNumber (length entry.now.limits) }
+    requires { HasBytes entry.now }
 {
     match encode(alloc, entry) {
         Ok(written) => {
