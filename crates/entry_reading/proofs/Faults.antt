@@ -1,5 +1,5 @@
 -- Faults of fields, seen from the fields before them.
-use Rattle.std.proofs.Common.{◌≡◌, ℕ, List, length, Result, IfErr, sym, subst}
+use Rattle.std.proofs.Common.{◌≡◌, ℕ, List, Result, IfErr, sym, subst}
 use Rattle.std.specs.Result.{IsErrAnd}
 use Rattle.entry_fields.proofs.Refused.{passed_on}
 use Rattle.entry_reading.specs.Faults.{IsFault}

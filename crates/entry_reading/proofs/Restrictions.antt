@@ -1,6 +1,5 @@
 -- Privileges of a limit, by their bits.
-use Rattle.std.proofs.Common.{◌≡◌, ◌<◌, ◌^◌, ◌↔◌, ℕ, true, false, List, ◌++◌, Option, Some, None, sym, ap, subst, ◌∙◌, arith}
-use Rattle.std.specs.Prelude.{IsNone, IsSome, refl}
+use Rattle.std.proofs.Common.{◌≡◌, ◌<◌, ◌^◌, ℕ, true, false, List, ◌++◌, sym, ap, subst, ◌∙◌, arith}
 use Rattle.std.proofs.lemmas.Bool.{and_parts, ltb-true}
 use Rattle.acl_stmt.specs.Limits.{is_limit}
 use Rattle.entry_bytes.proofs.Once.{number_once}

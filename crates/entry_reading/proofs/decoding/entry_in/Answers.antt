@@ -1,4 +1,4 @@
-use Rattle.std.proofs.Common.{◌≡◌, ◌∙◌, List, [], refl, subst, sym}
+use Rattle.std.proofs.Common.{◌∙◌, List, [], refl, subst, sym}
 use Rattle.acl_stmt.specs.declared.limit.Limit.{Limit}
 use Rattle.entry_bytes.specs.Faults.{EntryFields, LimitFields}
 use Rattle.entry_bytes.specs.Spelling.{MayStand, bytes_of, statement_bytes}

@@ -5,7 +5,7 @@ use Rattle.entry_bytes.specs.Faults.{NoneBegins}
 use Rattle.entry_bytes.specs.Spelling.{HasText, MayStand, statement_bytes}
 use Rattle.entry_fields.proofs.Refused.{passed_on}
 use Rattle.entry_fields.specs.Reading.{IsFieldFault}
-use Rattle.entry_reading.proofs.Texts.{may_not, no_text, other_text, wider_fault}
+use Rattle.entry_reading.proofs.Texts.{may_not, other_text, wider_fault}
 use Rattle.entry_reading.proofs.statement.statement_at.Goals as goal
 
 pub returns-in_err-statement-clause-err : goal.returns-in_err-statement-clause-err
