@@ -1,24 +1,27 @@
 //! Entries are written as bytes.
 
-ghost use Rattle.std.specs.Prelude.{◌≡◌, ◌<◌, ◌^◌, ◌++◌, IfOk, OnOk, length};
+ghost use Rattle.std.specs.Prelude.{◌≡◌, ◌<◌, ◌^◌, ◌++◌, IfOk, OnOk, length, string_bytes};
 ghost use Rattle.std.specs.List.{AllByRecursion, flat_map};
+ghost use Rattle.canonical_texts.specs.Statements.{canonical_text};
 ghost use Rattle.entry_bytes.specs.Spelling.{HasBytes, HasText, IsHost, IsNumber, IsSchema, IsUser, bytes_of, limit_bytes, long_text, number_bytes, short_text};
+ghost use Rattle.entry_codec.specs.ReadBack.{IsReadBack};
 
 use acl_names::{HostText, UserName};
-use acl_stmt::{Entry, Limit};
+use acl_stmt::{Entry, Limit, Statement};
 use entry_codec::text_of;
 use std::alloc::{AllocError, Global};
 
 /// The bytes of an entry: its caller, number, user, host, limits and the canonical text of its statement.
 pub fn encode(alloc: Global, entry: &Entry) -> Result<Vec<u8>, AllocError>
-    requires text { HasText entry.now.statement }
+    requires read_back { IsReadBack (canonical_text entry.now.statement) entry.now.statement }
+    requires short { length (canonical_text entry.now.statement) < 2 ^ 32 }
     requires count { IsNumber (length entry.now.limits) }
     ensures bytes { IfOk result (λ bytes. bytes.items ≡ bytes_of entry.now) }
 
     // The entry keeps what it is read back for.
     ensures kept { OnOk result (HasBytes entry.now) }
 {
-    let text = text_of(alloc, &entry.statement)?;
+    let text = statement_text(alloc, &entry.statement)?;
     let mut bytes = Vec::new(alloc);
     append_number(&mut bytes, entry.caller.0)?;
     append_number(&mut bytes, entry.number)?;
@@ -29,6 +32,17 @@ pub fn encode(alloc: Global, entry: &Entry) -> Result<Vec<u8>, AllocError>
     append_number(&mut bytes, text.len() as u32)?;
     bytes.extend_from_slice(text.as_bytes())?;
     Ok(bytes)
+}
+
+// The text from which the statement is read back.
+fn statement_text(alloc: Global, statement: &Statement) -> Result<String, AllocError>
+    requires read_back { IsReadBack (canonical_text statement.now) statement.now }
+    requires short { length (canonical_text statement.now) < 2 ^ 32 }
+    ensures text { IfOk result (λ text. string_bytes text ≡ canonical_text statement.now) }
+    ensures kept { OnOk result (HasText statement.now) }
+{
+    let text = text_of(alloc, statement)?;
+    Ok(text)
 }
 
 fn append_number(bytes: &mut Vec<u8>, number: u32) -> Result<(), AllocError>
