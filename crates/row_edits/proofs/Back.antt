@@ -2,9 +2,8 @@
 use Rattle.std.proofs.Common.{◌≡◌, ◌∙◌, ap, sym, refl, ℕ, Bool, true, false, cond, not, ◌||◌, ◌&&◌, List, None, IsTrue}
 use Rattle.std.proofs.lemmas.Bool.{true≢false}
 use Rattle.acl_model.specs.State.{State}
-use Rattle.acl_model.specs.Rows.{same_row}
 use Rattle.acl_model.specs.declared.row.Row.{Row}
-use Rattle.acl_model.specs.declared.row.Row.TheVariants.{Account, Dynamic, DynamicGrant, Edge, Admin}
+use Rattle.acl_model.specs.declared.row.Row.TheVariants.{Account, Dynamic, DynamicGrant, Edge}
 use Rattle.acl_names.specs.declared.auth.AuthId.{AuthId}
 use Rattle.row_tables.proofs.RowLists.{has}
 use Rattle.row_tables.proofs.States.{same_state}

@@ -1,7 +1,6 @@
 -- Rows that come one by one.
 use Rattle.std.proofs.Common.{◌≡◌, ◌∙◌, ◌<◌, ◌≤◌, ◌+◌, ◌-◌, ap, sym, subst, refl, ℕ, Bool, true, false, ◌||◌, ◌&&◌, List, [], ◌∷◌, ◌++◌, length, Option, None, Some, IsSome, ◌↔◌, IsTrue, arith}
 use Rattle.std.specs.Option.{option_to_list}
-use Rattle.std.specs.List.{list_any}
 use Rattle.std.proofs.Math.Bool.{or-false}
 use Rattle.std.proofs.lemmas.Bool.{and_from, and_parts, or_left, or_right}
 use Rattle.std.proofs.lemmas.List.{length-append}
@@ -131,3 +130,50 @@ with_none s = same_state _ _ (λ row. or-false (s.rows row)) (λ a. refl) refl r
 pub nothing_left : (all : List Row) (o : Option Row) → o ≡ None → (IsSome o ↔ (0 < length all)) → all ≡ []
 nothing_left [] o none some = refl
 nothing_left (x ∷ all) o none some = cc (some.1 (omega arith), none)
+
+-- ---- how much room is lost
+
+pub lost_more : (n : ℕ) (all left : List Row) (row : Row) → all ≡ left ++ row ∷ [] → (first old new : Room) → length all ≤ n → LosesAtMost (n - length all) first old → LosesAtMost 1 old new → LosesAtMost (n - length left) first new
+lost_more n all left row split first old new fewer lost one =
+    let more : length all ≡ length left + 1 = ap length split ∙ length-append left (row ∷ []) in
+    record {
+      accounts = omega (arith, more, fewer, lost.accounts, one.accounts);
+      schemas = omega (arith, more, fewer, lost.schemas, one.schemas);
+      pairs = omega (arith, more, fewer, lost.pairs, one.pairs);
+      objects = omega (arith, more, fewer, lost.objects, one.objects);
+      edges = omega (arith, more, fewer, lost.edges, one.edges);
+    }
+
+pub fewer_left : (n : ℕ) (all left : List Row) (row : Row) → all ≡ left ++ row ∷ [] → length all ≤ n → length left ≤ n
+fewer_left n all left row split fewer =
+    let more : length all ≡ length left + 1 = ap length split ∙ length-append left (row ∷ []) in
+    omega (arith, more, fewer)
+
+pub lost_none : (n : ℕ) (room : Room) → LosesAtMost (n - n) room room
+lost_none n room = record { accounts = omega arith; schemas = omega arith; pairs = omega arith; objects = omega arith; edges = omega arith }
+
+pub lost_all : (n left : ℕ) (first last : Room) → LosesAtMost (n - left) first last → LosesAtMost n first last
+lost_all n left first last lost = record {
+  accounts = omega (arith, lost.accounts);
+  schemas = omega (arith, lost.schemas);
+  pairs = omega (arith, lost.pairs);
+  objects = omega (arith, lost.objects);
+  edges = omega (arith, lost.edges);
+}
+
+-- what is asked for two lists is there for the first, and for the second after it
+pub room_after : (n m lost : ℕ) (old new : Room) → RowsFitIn (n + m) old → LosesAtMost lost old new → lost ≤ m → RowsFitIn n new
+room_after n m lost old new fits loses few = record {
+  schemas = omega (arith, fits.schemas, loses.schemas, few);
+  pairs = omega (arith, fits.pairs, loses.pairs, few);
+  objects = omega (arith, fits.objects, loses.objects, few);
+  edges = omega (arith, fits.edges, loses.edges, few);
+}
+
+pub room_behind : (n m : ℕ) (first old new : Room) → RowsFitIn (n + m) first → LosesAtMost 0 first old → LosesAtMost n old new → RowsFitIn m new
+room_behind n m first old new fits none loses = record {
+  schemas = omega (arith, fits.schemas, none.schemas, loses.schemas);
+  pairs = omega (arith, fits.pairs, none.pairs, loses.pairs);
+  objects = omega (arith, fits.objects, none.objects, loses.objects);
+  edges = omega (arith, fits.edges, none.edges, loses.edges);
+}

@@ -3,4 +3,4 @@
 
 mod come;
 
-pub use come::put_each;
+pub use come::{edit, options_of, plain_of, put_each};

@@ -51,3 +51,17 @@ fits_one n i room within fits (Default of role) other = omega (arith, within, fi
 pub ready_is_grant : (state : State) (come : List Row) (row : Row) → HasBasis state come row → is_account row ≡ false
 ready_is_grant state come (Account a) basis = absurd basis
 ready_is_grant state come _ basis = refl
+
+-- ---- where no room is lost
+
+pub none_lost : (room : Room) → LosesAtMost 0 room room
+none_lost room = record { accounts = omega arith; schemas = omega arith; pairs = omega arith; objects = omega arith; edges = omega arith }
+
+pub none_lost_twice : (first old new : Room) → LosesAtMost 0 first old → LosesAtMost 0 old new → LosesAtMost 0 first new
+none_lost_twice first old new earlier later = record {
+  accounts = omega (arith, earlier.accounts, later.accounts);
+  schemas = omega (arith, earlier.schemas, later.schemas);
+  pairs = omega (arith, earlier.pairs, later.pairs);
+  objects = omega (arith, earlier.objects, later.objects);
+  edges = omega (arith, earlier.edges, later.edges);
+}

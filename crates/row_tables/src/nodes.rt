@@ -4,7 +4,7 @@ ghost use Rattle.std.specs.Option.{option_copied};
 ghost use Rattle.acl_model.specs.declared.row.Row.{Row as RowValue};
 ghost use Rattle.acl_model.specs.declared.row.Row.TheVariants.{Admin as AdminRow, Dynamic as DynamicRow, DynamicGrant as DynamicGrantRow, Edge as EdgeRow};
 ghost use Rattle.acl_names.specs.declared.auth.AuthId.{AuthId as AuthIdValue};
-ghost use Rattle.row_tables.specs.Conditions.{has_its_level};
+ghost use Rattle.row_tables.specs.Conditions.{has_its_level, names_stand};
 ghost use Rattle.row_tables.specs.Tables.{state_of};
 ghost use Rattle.numbered_names.specs.Numbered.{name_at};
 ghost use Rattle.numbered_rows.specs.Numbering.{number_of as number_in};
@@ -58,6 +58,12 @@ impl Rows {
     /// The law that each row's privilege has the level of the row. It does nothing when it runs.
     pub fn rows_have_levels(&self)
         ensures { (row : RowValue) → IsTrue ((state_of self.now).rows row) → IsTrue (has_its_level row) }
+    {
+        let _ = &self.holdings;
+    }
+    /// The law that the accounts that a row names stand. It does nothing when it runs.
+    pub fn rows_name_accounts(&self)
+        ensures { (row : RowValue) → IsTrue ((state_of self.now).rows row) → IsTrue (names_stand (state_of self.now) row) }
     {
         let _ = &self.holdings;
     }
