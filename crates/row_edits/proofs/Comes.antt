@@ -177,3 +177,12 @@ room_behind n m first old new fits none loses = record {
   objects = omega (arith, fits.objects, none.objects, loses.objects);
   edges = omega (arith, fits.edges, none.edges, loses.edges);
 }
+
+pub lost_in_all : (n m : ℕ) (first gone plain last : Room) → LosesAtMost 0 first gone → LosesAtMost n gone plain → LosesAtMost m plain last → LosesAtMost (n + m) first last
+lost_in_all n m first gone plain last none one other = record {
+  accounts = omega (arith, none.accounts, one.accounts, other.accounts);
+  schemas = omega (arith, none.schemas, one.schemas, other.schemas);
+  pairs = omega (arith, none.pairs, one.pairs, other.pairs);
+  objects = omega (arith, none.objects, one.objects, other.objects);
+  edges = omega (arith, none.edges, one.edges, other.edges);
+}

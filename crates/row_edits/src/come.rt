@@ -24,20 +24,27 @@ pub fn put_each(rows: &mut Rows, mut come: Vec<Row>)
     }
 }
 
-// Whether the row stands on another one.
+// Whether the row stands on another row, which is no account.
 fn is_option(row: &Row) -> bool
     ensures { result ≡ is_option row.now }
 {
     matches!(row, Row::DynamicGrant(_, _) | Row::Admin { .. })
 }
 
-/// The rows of the list that stand on no other one, in its order and in memory of their own.
+// Whether the row stands on accounts alone.
+fn is_plain(row: &Row) -> bool
+    ensures { result ≡ is_plain row.now }
+{
+    !matches!(row, Row::Account(_)) && !is_option(row)
+}
+
+/// The rows of the list that stand on accounts alone, in its order and in memory of their own.
 pub fn plain_of(alloc: Global, rows: &[Row]) -> Result<Vec<Row>, AllocError>
     ensures { IfOk result (λ plain. plain.items ≡ filter is_plain rows.now) }
 {
     let mut plain = Vec::new(alloc);
     for row in rows {
-        if is_option(row) {
+        if !is_plain(row) {
             continue;
         }
         plain.push(row.copy(alloc)?)?;
@@ -45,7 +52,7 @@ pub fn plain_of(alloc: Global, rows: &[Row]) -> Result<Vec<Row>, AllocError>
     Ok(plain)
 }
 
-/// The rows of the list that stand on another one, in its order and in memory of their own.
+/// The rows of the list that stand on other rows, which are no accounts, in its order and in memory of their own.
 pub fn options_of(alloc: Global, rows: &[Row]) -> Result<Vec<Row>, AllocError>
     ensures { IfOk result (λ options. options.items ≡ filter is_option rows.now) }
 {
@@ -67,8 +74,9 @@ pub fn edit(rows: &mut Rows, gone: &[Row], plain: Vec<Row>, options: Vec<Row>)
     requires options { (row : RowValue) → IsTrue (list_any (same_row row) options.items)
         → IsReadyAmong (with_rows plain.items (without_rows gone.now (state_of rows.old))) [] row }
     requires room { RowsFitIn (length plain.items + length options.items) (room_of rows.old) }
-    ensures { state_of rows.new ≡ with_rows options.items
+    ensures state { state_of rows.new ≡ with_rows options.items
         (with_rows plain.items (without_rows gone.now (state_of rows.old))) }
+    ensures room { LosesAtMost (length plain.items + length options.items) (room_of rows.old) (room_of rows.new) }
 {
     take_all(rows, gone);
     put_each(rows, plain);
