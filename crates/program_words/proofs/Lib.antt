@@ -1,0 +1,4 @@
+mod Answered
+mod Numbers
+mod Outcomes
+mod Walks
