@@ -1,0 +1,4 @@
+pub mod Draws
+pub mod Examples
+pub mod Scripts
+pub mod Texts
