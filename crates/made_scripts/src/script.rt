@@ -1,5 +1,5 @@
 //! Made scripts as texts.
-ghost use Rattle.std.specs.Prelude.{◌≡◌, ◌<◌, ◌++◌, IfOk, OnOk, string_bytes};
+ghost use Rattle.std.specs.Prelude.{◌≡◌, ◌<◌, ◌≤◌, ◌+◌, ◌*◌, ◌++◌, IfOk, OnOk, length, string_bytes};
 ghost use Rattle.std.specs.List.{flat_map, range_with_len};
 ghost use Rattle.made_scripts.specs.Draws.{lines_from};
 ghost use Rattle.made_scripts.specs.Scripts.{made};
@@ -18,7 +18,9 @@ pub fn made_script(
     lines: u64,
 ) -> Result<String, AllocError>
     requires { 0 < sessions }
-    ensures { IfOk result (λ script. string_bytes script ≡ made number sessions lines) }
+    ensures made { IfOk result (λ script. string_bytes script ≡ made number sessions lines) }
+    ensures short { sessions ≤ 64 → IfOk result (λ script.
+        length (string_bytes script) ≤ 40 * (sessions + lines)) }
 {
     let mut script = String::new(alloc);
     write_first_lines(&mut script, sessions)?;

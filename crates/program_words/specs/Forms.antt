@@ -1,5 +1,5 @@
 -- What the words after the program's name ask for.
-use Rattle.std.specs.Prelude.{ℕ, Bool, true, ◌&&◌, ◌==◌, not, nat_le, if◌then◌else◌, List, [], ◌∷◌, codes, length, Option, None, Some}
+use Rattle.std.specs.Prelude.{ℕ, ◌≤◌, Bool, true, ◌&&◌, ◌==◌, not, nat_le, if◌then◌else◌, List, [], ◌∷◌, codes, length, Option, None, Some}
 use Rattle.std.specs.Char.{is_ascii_digit}
 use Rattle.std.specs.List.{list_all}
 use Rattle.std.specs.Str.{bytes_eq}
@@ -49,3 +49,8 @@ form_with command (one ∷ two ∷ three ∷ four ∷ more) = None
 abbrev pub form_of : List (List ℕ) → Option Form
 form_of [] = None
 form_of (command ∷ operands) = if list_all is_operand operands then form_with command operands else None
+
+-- the numbers of `make` lie within their bounds
+abbrev pub IsWithin : Form → Type 0
+IsWithin Step = Unit {0}
+IsWithin (Make number sessions lines) = (1 ≤ sessions) × (sessions ≤ 64) × (1 ≤ lines) × (lines ≤ 199936)

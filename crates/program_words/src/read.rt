@@ -1,9 +1,9 @@
 //! What the words ask for.
-ghost use Rattle.std.specs.Prelude.{◌≡◌, IfOk, codes, map, string_bytes};
+ghost use Rattle.std.specs.Prelude.{◌≡◌, IfOk, IfSome, codes, map, string_bytes};
 ghost use Rattle.clap.specs.Matches.{found_of};
 ghost use Rattle.clap.specs.Simple.{subcommand_rows_of};
 ghost use Rattle.clap.specs.Walk.{rows_of};
-ghost use Rattle.program_words.specs.Forms.{form_of, make_of};
+ghost use Rattle.program_words.specs.Forms.{IsWithin, form_of, make_of};
 ghost use Rattle.program_words.specs.Parser.{form_matched, make_given, number_given};
 
 use crate::Form;
@@ -22,7 +22,8 @@ const MOST_LINES: u64 = 199_936;
 /// What the words after the program's name ask for: None where they are none of the forms. Want of memory may come before
 /// either.
 pub fn read_form(alloc: Global, words: &[String]) -> Result<Option<Form>, AllocError>
-    ensures { IfOk result (λ form. form ≡ form_of (map string_bytes words.now)) }
+    ensures form { IfOk result (λ form. form ≡ form_of (map string_bytes words.now)) }
+    ensures within { IfOk result (λ form. IfSome form IsWithin) }
 {
     if !are_operands(words) {
         return Ok(None);
