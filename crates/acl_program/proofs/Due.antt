@@ -6,7 +6,6 @@ use Rattle.acl_program.specs.Rehearsal.{IsRehearsal}
 use Rattle.acl_program.specs.Endings.{ComesExactly, IsCausedBy, IsDue, IsMade, IsOrEarlier, IsReadFor}
 use Rattle.acl_program.specs.Scripts.{HasScript, IsBadScript, IsTooMuch}
 use Rattle.acl_program.specs.Streams.{IsCutBeyond, IsEndLeft, IsReadWhole, most_bytes}
-use Rattle.acl_program.specs.Words.{is_step}
 use Rattle.acl_program.specs.declared.cause.Cause.{Cause}
 use Rattle.acl_program.specs.declared.cause.Cause.TheVariants.{Fine, Usage, BadScript, ReadFault, WriteFault, NoMemory, Limit}
 use Rattle.acl_program.specs.declared.input.InputFault.{InputFault}
@@ -21,25 +20,14 @@ use Rattle.script_read.specs.Built.{IsBuiltCommand, IsBuiltRefusal}
 use Rattle.script_run.specs.Forms.{is_built}
 use Rattle.script_lines.specs.declared.refusal.Which.TheVariants.{Bytes, Lines, Sessions}
 
--- words that ask for no run
-pub due_usage : (left : Option (List ℕ)) (words : List (List ℕ)) → is_step words ≡ false → IfSome left (λ bytes. IsDue words bytes Usage)
-due_usage None words none = tt
-due_usage (Some bytes) words none = record {
-  bad = λ line refusal asked bad. absurd (not_both (is_step words) none asked);
-  limit = λ which number asked much. absurd (not_both (is_step words) none asked);
-}
-  where
-    not_both : (b : Bool) → b ≡ false → b ≡ true → ⊥
-    not_both b wrong right = let e : false ≡ true = sym wrong ∙ right in absurd (cc)
-
 -- a read that failed, and want of memory, come before
-pub due_fault : (left : Option (List ℕ)) (words : List (List ℕ)) → IfSome left (λ bytes. IsDue words bytes ReadFault)
-due_fault None words = tt
-due_fault (Some bytes) words = record { bad = λ line refusal asked bad. inr (inl refl); limit = λ which number asked much. inr (inl refl) }
+pub due_fault : (left : Option (List ℕ)) → IfSome left (λ bytes. IsDue bytes ReadFault)
+due_fault None = tt
+due_fault (Some bytes) = record { bad = λ line refusal bad. inr (inl refl); limit = λ which number much. inr (inl refl) }
 
-pub due_memory : (left : Option (List ℕ)) (words : List (List ℕ)) → IfSome left (λ bytes. IsDue words bytes NoMemory)
-due_memory None words = tt
-due_memory (Some bytes) words = record { bad = λ line refusal asked bad. inr (inr refl); limit = λ which number asked much. inr (inr refl) }
+pub due_memory : (left : Option (List ℕ)) → IfSome left (λ bytes. IsDue bytes NoMemory)
+due_memory None = tt
+due_memory (Some bytes) = record { bad = λ line refusal bad. inr (inr refl); limit = λ which number much. inr (inr refl) }
 
 beyond_bytes : (bytes : List ℕ) → most_bytes < length bytes → (which : Which) (number : ℕ) → IsTooMuch bytes which number → Limit Bytes most_bytes ≡ Limit which number
 beyond_bytes bytes long Bytes number much = ap (Limit Bytes) (sym much.0)
@@ -47,11 +35,11 @@ beyond_bytes bytes long Lines number much = absurd (omega (arith, much.1))
 beyond_bytes bytes long Sessions number much = absurd (omega (arith, much.1.bytes_are))
 
 -- too many bytes are told before anything else of them
-pub due_long : (left after : Option (List ℕ)) (words : List (List ℕ)) → IfSome left (λ bytes. IsCutBeyond most_bytes bytes after) → IfSome left (λ bytes. IsDue words bytes (Limit Bytes most_bytes))
-due_long None after words cut = tt
-due_long (Some bytes) after words cut = record {
-  bad = λ line refusal asked bad. absurd (omega (arith, cut.0, bad.within.bytes_are));
-  limit = λ which number asked much. inl (beyond_bytes bytes cut.0 which number much);
+pub due_long : (left after : Option (List ℕ)) → IfSome left (λ bytes. IsCutBeyond most_bytes bytes after) → IfSome left (λ bytes. IsDue bytes (Limit Bytes most_bytes))
+due_long None after cut = tt
+due_long (Some bytes) after cut = record {
+  bad = λ line refusal bad. absurd (omega (arith, cut.0, bad.within.bytes_are));
+  limit = λ which number much. inl (beyond_bytes bytes cut.0 which number much);
 }
 
 same_refusal : {S : Type 0} (a b : ScriptRefusal) → let left : Result S ScriptRefusal = Err a in left ≡ Err b → a ≡ b
@@ -63,13 +51,13 @@ refused_so result refusal wanted is (inl told) = inl (ap cause_of_refusal (same_
 refused_so result refusal wanted is (inr none) = inr (inr (ap cause_of_refusal (same_refusal refusal script.NoMemory (sym is ∙ none))))
 
 -- a refusal of the script's
-pub due_refused : {S : Type 0} (bytes : List ℕ) (words : List (List ℕ)) (result : Result S ScriptRefusal) (refusal : ScriptRefusal) → result ≡ Err refusal
+pub due_refused : {S : Type 0} (bytes : List ℕ) (result : Result S ScriptRefusal) (refusal : ScriptRefusal) → result ≡ Err refusal
     → ((number : ℕ) (parse : ParseRefusal) → IsBadScript bytes number parse → RefusesScript result (script.BadLine number parse))
     → ((which : Which) (number : ℕ) → IsTooMuch bytes which number → RefusesScript result (script.Limit which number))
-    → IsDue words bytes (cause_of_refusal refusal)
-due_refused bytes words result refusal is bad limit = record {
-  bad = λ line parse asked holds. refused_so result refusal (script.BadLine line parse) is (bad line parse holds);
-  limit = λ which number asked much. refused_so result refusal (script.Limit which number) is (limit which number much);
+    → IsDue bytes (cause_of_refusal refusal)
+due_refused bytes result refusal is bad limit = record {
+  bad = λ line parse holds. refused_so result refusal (script.BadLine line parse) is (bad line parse holds);
+  limit = λ which number much. refused_so result refusal (script.Limit which number) is (limit which number much);
 }
 
 not_refused : {S : Type 0} (result : Result S ScriptRefusal) (made : S) (wanted : ScriptRefusal) → result ≡ Ok made → RefusesScript result wanted → ⊥
@@ -83,34 +71,34 @@ not_refused {S} result made wanted is (inr none) = differ (sym is ∙ none)
     differ e = cc
 
 -- a script that was read
-pub due_read : {S : Type 0} (bytes : List ℕ) (words : List (List ℕ)) (result : Result S ScriptRefusal) (made : S) (cause : Cause) → result ≡ Ok made
+pub due_read : {S : Type 0} (bytes : List ℕ) (result : Result S ScriptRefusal) (made : S) (cause : Cause) → result ≡ Ok made
     → ((number : ℕ) (parse : ParseRefusal) → IsBadScript bytes number parse → RefusesScript result (script.BadLine number parse))
     → ((which : Which) (number : ℕ) → IsTooMuch bytes which number → RefusesScript result (script.Limit which number))
-    → IsDue words bytes cause
-due_read bytes words result made cause is bad limit = record {
-  bad = λ line parse asked holds. absurd (not_refused result made (script.BadLine line parse) is (bad line parse holds));
-  limit = λ which number asked much. absurd (not_refused result made (script.Limit which number) is (limit which number much));
+    → IsDue bytes cause
+due_read bytes result made cause is bad limit = record {
+  bad = λ line parse holds. absurd (not_refused result made (script.BadLine line parse) is (bad line parse holds));
+  limit = λ which number much. absurd (not_refused result made (script.Limit which number) is (limit which number much));
 }
 
 -- an end that is due comes exactly where its cause is there
-pub bad_script_exactly : (left : Option (List ℕ)) (words : List (List ℕ)) (cause : Cause) → IfSome left (λ bytes. IsCausedBy words bytes cause) → IfSome left (λ bytes. IsDue words bytes cause)
-    → IfSome left (λ bytes. (line : ℕ) (refusal : ParseRefusal) → ComesExactly cause (BadScript line refusal) ((is_step words ≡ true) × IsBadScript bytes line refusal))
-bad_script_exactly None words cause why due = tt
-bad_script_exactly (Some bytes) words cause why due =
-    λ line refusal. record { only = λ e. subst (λ c. IsCausedBy words bytes c) e why; always = λ holds. due.bad line refusal holds.0 holds.1 }
+pub bad_script_exactly : (left : Option (List ℕ)) (cause : Cause) → IfSome left (λ bytes. IsCausedBy bytes cause) → IfSome left (λ bytes. IsDue bytes cause)
+    → IfSome left (λ bytes. (line : ℕ) (refusal : ParseRefusal) → ComesExactly cause (BadScript line refusal) (IsBadScript bytes line refusal))
+bad_script_exactly None cause why due = tt
+bad_script_exactly (Some bytes) cause why due =
+    λ line refusal. record { only = λ e. subst (λ c. IsCausedBy bytes c) e why; always = λ holds. due.bad line refusal holds }
 
-pub limit_exactly : (left : Option (List ℕ)) (words : List (List ℕ)) (cause : Cause) → IfSome left (λ bytes. IsCausedBy words bytes cause) → IfSome left (λ bytes. IsDue words bytes cause)
-    → IfSome left (λ bytes. (which : Which) (number : ℕ) → ComesExactly cause (Limit which number) ((is_step words ≡ true) × IsTooMuch bytes which number))
-limit_exactly None words cause why due = tt
-limit_exactly (Some bytes) words cause why due =
-    λ which number. record { only = λ e. subst (λ c. IsCausedBy words bytes c) e why; always = λ holds. due.limit which number holds.0 holds.1 }
+pub limit_exactly : (left : Option (List ℕ)) (cause : Cause) → IfSome left (λ bytes. IsCausedBy bytes cause) → IfSome left (λ bytes. IsDue bytes cause)
+    → IfSome left (λ bytes. (which : Which) (number : ℕ) → ComesExactly cause (Limit which number) (IsTooMuch bytes which number))
+limit_exactly None cause why due = tt
+limit_exactly (Some bytes) cause why due =
+    λ which number. record { only = λ e. subst (λ c. IsCausedBy bytes c) e why; always = λ holds. due.limit which number holds }
 
 -- an end that is told as it came
-pub caused_as : (left : Option (List ℕ)) (words : List (List ℕ)) (cause told : Cause) → told ≡ cause → IfSome left (λ bytes. IsCausedBy words bytes cause) → IfSome left (λ bytes. IsCausedBy words bytes told)
-caused_as left words cause told same why = subst (λ k. IfSome left (λ bytes. IsCausedBy words bytes k)) (sym same) why
+pub caused_as : (left : Option (List ℕ)) (cause told : Cause) → told ≡ cause → IfSome left (λ bytes. IsCausedBy bytes cause) → IfSome left (λ bytes. IsCausedBy bytes told)
+caused_as left cause told same why = subst (λ k. IfSome left (λ bytes. IsCausedBy bytes k)) (sym same) why
 
-pub due_as : (left : Option (List ℕ)) (words : List (List ℕ)) (cause told : Cause) → told ≡ cause → IfSome left (λ bytes. IsDue words bytes cause) → IfSome left (λ bytes. IsDue words bytes told)
-due_as left words cause told same due = subst (λ k. IfSome left (λ bytes. IsDue words bytes k)) (sym same) due
+pub due_as : (left : Option (List ℕ)) (cause told : Cause) → told ≡ cause → IfSome left (λ bytes. IsDue bytes cause) → IfSome left (λ bytes. IsDue bytes told)
+due_as left cause told same due = subst (λ k. IfSome left (λ bytes. IsDue bytes k)) (sym same) due
 
 fine_differs : (line : ℕ) (refusal : ParseRefusal) → IsOrEarlier Fine (BadScript line refusal) → ⊥
 fine_differs line refusal (inl e) = cc
@@ -123,11 +111,11 @@ fine_is_no_limit which number (inr (inl e)) = cc
 fine_is_no_limit which number (inr (inr e)) = cc
 
 -- where all lines were run, any end is due
-pub due_ended : (left : Option (List ℕ)) (words : List (List ℕ)) (cause : Cause) → IfSome left (λ bytes. IsDue words bytes Fine) → IfSome left (λ bytes. IsDue words bytes cause)
-due_ended None words cause due = tt
-due_ended (Some bytes) words cause due = record {
-  bad = λ line refusal asked holds. absurd (fine_differs line refusal (due.bad line refusal asked holds));
-  limit = λ which number asked much. absurd (fine_is_no_limit which number (due.limit which number asked much));
+pub due_ended : (left : Option (List ℕ)) (cause : Cause) → IfSome left (λ bytes. IsDue bytes Fine) → IfSome left (λ bytes. IsDue bytes cause)
+due_ended None cause due = tt
+due_ended (Some bytes) cause due = record {
+  bad = λ line refusal holds. absurd (fine_differs line refusal (due.bad line refusal holds));
+  limit = λ which number much. absurd (fine_is_no_limit which number (due.limit which number much));
 }
 
 -- where nothing is left, an end of the bytes is left
@@ -144,16 +132,16 @@ of_whole None after read P whole holds = tt
 of_whole (Some bytes) after read P whole holds = subst P whole.0 holds
 
 -- an end of bytes that were read has its cause
-pub caused : (words : List (List ℕ)) (bytes : List ℕ) (cause : Cause) → is_step words ≡ true → IsMade bytes cause → IsCausedBy words bytes cause
-caused words bytes Fine asked made = (asked, made)
-caused words bytes Usage asked made = absurd made
-caused words bytes (BadScript line refusal) asked made = (asked, made)
-caused words bytes ReadFault asked made = absurd made
-caused words bytes WriteFault asked made = absurd made
-caused words bytes NoMemory asked made = asked
-caused words bytes (Limit Bytes number) asked made = absurd made
-caused words bytes (Limit Lines number) asked made = (asked, made)
-caused words bytes (Limit Sessions number) asked made = (asked, made)
+pub caused : (bytes : List ℕ) (cause : Cause) → IsMade bytes cause → IsCausedBy bytes cause
+caused bytes Fine made = made
+caused bytes Usage made = absurd made
+caused bytes (BadScript line refusal) made = made
+caused bytes ReadFault made = absurd made
+caused bytes WriteFault made = absurd made
+caused bytes NoMemory made = tt
+caused bytes (Limit Bytes number) made = absurd made
+caused bytes (Limit Lines number) made = made
+caused bytes (Limit Sessions number) made = made
 
 read_so : (bytes : List ℕ) (cause : Cause) (left : Option (List ℕ)) → left ≡ Some [] → IsMade bytes cause → IsReadFor cause bytes left
 read_so bytes Fine left none made = none
@@ -204,8 +192,8 @@ err_otherwise (Ok report) bytes made err = tt
 err_otherwise (Err cause) bytes made err = (err, (made_otherwise bytes cause made).1.1)
 
 -- an input that was not read
-pub due_input : (left after : Option (List ℕ)) (words : List (List ℕ)) (fault : InputFault) → (fault ≡ TooLong → IfSome left (λ bytes. IsCutBeyond most_bytes bytes after))
-    → IfSome left (λ bytes. IsDue words bytes (cause_of_fault fault))
-due_input left after words Failed cut = due_fault left words
-due_input left after words TooLong cut = due_long left after words (cut refl)
-due_input left after words NoMemoryForInput cut = due_memory left words
+pub due_input : (left after : Option (List ℕ)) (fault : InputFault) → (fault ≡ TooLong → IfSome left (λ bytes. IsCutBeyond most_bytes bytes after))
+    → IfSome left (λ bytes. IsDue bytes (cause_of_fault fault))
+due_input left after Failed cut = due_fault left
+due_input left after TooLong cut = due_long left after (cut refl)
+due_input left after NoMemoryForInput cut = due_memory left

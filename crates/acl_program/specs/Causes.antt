@@ -5,7 +5,6 @@ use Rattle.acl_program.specs.declared.cause.Cause.{Cause}
 use Rattle.acl_program.specs.declared.cause.Cause.TheVariants.{Fine, Usage, BadScript, ReadFault, WriteFault, NoMemory, Limit}
 use Rattle.acl_program.specs.declared.input.InputFault.{InputFault}
 use Rattle.acl_program.specs.declared.input.InputFault.TheVariants.{Failed, TooLong, NoMemory as NoMemoryForInput}
-use Rattle.line_answers.specs.declared.report.Report.{Report}
 use Rattle.grant_refusal.specs.declared.ParseRefusal.{ParseRefusal}
 use Rattle.grant_refusal.specs.declared.ParseRefusal.TheVariants as parse
 use Rattle.priv_sets.specs.Privileges.{privilege_name}
@@ -40,7 +39,7 @@ refusal_text parse.NoMemory = codes "no memory"
 -- the line on the error stream
 abbrev pub text_of_cause : Cause → List ℕ
 text_of_cause Fine = []
-text_of_cause Usage = codes "usage: acl step SCRIPT JOURNAL\n"
+text_of_cause Usage = codes "usage: acl step SCRIPT JOURNAL, acl make NUMBER SESSIONS LINES\n"
 text_of_cause (BadScript line refusal) = codes "line " ++ (decimal line ++ (codes ": " ++ (refusal_text refusal ++ codes "\n")))
 text_of_cause ReadFault = codes "read fault\n"
 text_of_cause WriteFault = codes "write fault\n"
@@ -60,6 +59,6 @@ cause_of_refusal (LimitOfScript which number) = Limit which number
 cause_of_refusal NoMemoryForScript = NoMemory
 
 -- how it ends so far, before the report is written
-abbrev pub cause_so_far : Result Report Cause → Cause
-cause_so_far (Ok report) = Fine
+abbrev pub cause_so_far : {Made : Type 0} → Result Made Cause → Cause
+cause_so_far (Ok made) = Fine
 cause_so_far (Err cause) = cause

@@ -1,9 +1,8 @@
 -- What an end of the program says of its words, its script and its devices.
-use Rattle.std.specs.Prelude.{◌≡◌, ◌⊎◌, ℕ, ◌≤◌, false, true, List, [], ◌++◌, Option, None, Some, IsSome}
+use Rattle.std.specs.Prelude.{◌≡◌, ◌⊎◌, ℕ, ◌≤◌, List, [], ◌++◌, Option, None, Some, IsSome}
 use Rattle.acl_ports.specs.Faults.{next_count}
 use Rattle.acl_program.specs.Scripts.{HasScript, IsBadScript, IsTooMuch}
 use Rattle.acl_program.specs.Streams.{IsCutBeyond, IsEndLeft, IsPrefixWritten, most_bytes}
-use Rattle.acl_program.specs.Words.{is_step}
 use Rattle.acl_program.specs.declared.cause.Cause.{Cause}
 use Rattle.acl_program.specs.declared.cause.Cause.TheVariants.{Fine, Usage, BadScript, ReadFault, WriteFault, NoMemory, Limit}
 use Rattle.grant_refusal.specs.declared.ParseRefusal.{ParseRefusal}
@@ -20,10 +19,14 @@ pub record ComesExactly (cause wanted : Cause) (Holds : Type 0) : Type 0 where
   pub only : cause ≡ wanted → Holds
   pub always : Holds → IsOrEarlier cause wanted
 
--- bytes that are no script are told, where the words ask for a run
-pub record IsDue (words : List (List ℕ)) (bytes : List ℕ) (cause : Cause) : Type 0 where
-  pub bad : (line : ℕ) (refusal : ParseRefusal) → is_step words ≡ true → IsBadScript bytes line refusal → IsOrEarlier cause (BadScript line refusal)
-  pub limit : (which : Which) (number : ℕ) → is_step words ≡ true → IsTooMuch bytes which number → IsOrEarlier cause (Limit which number)
+-- words without a form end the program as such, unless memory ran out before
+abbrev pub IsUsageOrWant : Cause → Type 0
+IsUsageOrWant cause = (cause ≡ Usage) ⊎ (cause ≡ NoMemory)
+
+-- bytes that are no script are told
+pub record IsDue (bytes : List ℕ) (cause : Cause) : Type 0 where
+  pub bad : (line : ℕ) (refusal : ParseRefusal) → IsBadScript bytes line refusal → IsOrEarlier cause (BadScript line refusal)
+  pub limit : (which : Which) (number : ℕ) → IsTooMuch bytes which number → IsOrEarlier cause (Limit which number)
 
 -- what the program has read of these bytes when it ends so, by what is left of them
 abbrev pub IsReadFor : Cause → List ℕ → Option (List ℕ) → Type 0
@@ -52,15 +55,15 @@ abbrev pub IsTold : List ℕ → List ℕ → ℕ → ℕ → Option (List ℕ) 
 IsTold before text old_faults new_faults written =
     (written ≡ Some (before ++ text)) ⊎ ((next_count old_faults ≤ new_faults) × IsPrefixWritten before text written)
 
--- what the words and the bytes have to do with an end
-abbrev pub IsCausedBy : List (List ℕ) → List ℕ → Cause → Type 0
-IsCausedBy words bytes Fine = (is_step words ≡ true) × HasScript bytes
-IsCausedBy words bytes Usage = is_step words ≡ false
-IsCausedBy words bytes (BadScript line refusal) = (is_step words ≡ true) × IsBadScript bytes line refusal
-IsCausedBy words bytes ReadFault = is_step words ≡ true
-IsCausedBy words bytes WriteFault = (is_step words ≡ true) × HasScript bytes
-IsCausedBy words bytes NoMemory = is_step words ≡ true
-IsCausedBy words bytes (Limit which number) = (is_step words ≡ true) × IsTooMuch bytes which number
+-- what the bytes of the script have to do with an end
+abbrev pub IsCausedBy : List ℕ → Cause → Type 0
+IsCausedBy bytes Fine = HasScript bytes
+IsCausedBy bytes Usage = ⊥
+IsCausedBy bytes (BadScript line refusal) = IsBadScript bytes line refusal
+IsCausedBy bytes ReadFault = Unit {0}
+IsCausedBy bytes WriteFault = HasScript bytes
+IsCausedBy bytes NoMemory = Unit {0}
+IsCausedBy bytes (Limit which number) = IsTooMuch bytes which number
 
 -- what bytes within the limit have to do with an end, once they were read
 abbrev pub IsMade : List ℕ → Cause → Type 0

@@ -79,7 +79,10 @@ pub(crate) fn tell<E: Sink>(err: &mut E, cause: &Cause) -> Result<(), Failed>
 {
     match *cause {
         Cause::Fine => write_parts(err, &[]),
-        Cause::Usage => write_parts(err, &["usage: acl step SCRIPT JOURNAL\n"]),
+        Cause::Usage => write_parts(
+            err,
+            &["usage: acl step SCRIPT JOURNAL, acl make NUMBER SESSIONS LINES\n"],
+        ),
         Cause::BadScript { line, refusal } => tell_bad_line(err, line, refusal),
         Cause::ReadFault => write_parts(err, &["read fault\n"]),
         Cause::WriteFault => write_parts(err, &["write fault\n"]),

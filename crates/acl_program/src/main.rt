@@ -4,10 +4,10 @@
 mod cause;
 mod input;
 mod output;
+mod rehearse;
 mod serve;
 #[cfg(test)]
 mod tests;
-mod words;
 
 use acl_ports::{MemoryDisk, StdSink, StdSource};
 use serve::serve;

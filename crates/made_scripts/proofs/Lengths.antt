@@ -1,14 +1,11 @@
 -- No line of a made script has more than 40 bytes.
-use Rattle.std.proofs.Common.{◌≡◌, ℕ, zero, suc, ◌+◌, ◌*◌, ◌/◌, ◌%◌, ◌^◌, ◌<◌, ◌≤◌, List, [], ◌∷◌, ◌++◌, length, codes, arith, append-nil, length-append}
+use Rattle.std.proofs.Common.{◌≡◌, ℕ, zero, suc, ◌+◌, ◌*◌, ◌<◌, ◌≤◌, List, [], ◌++◌, length, codes, arith, append-nil, length-append}
 use Rattle.std.proofs.lemmas.Fmt.{length-decimal-le}
 use Rattle.std.specs.List.{flat_map, range_with_len}
 use Rattle.std.specs.Prelude.{decimal}
 use Rattle.made_scripts.specs.Draws.{behind_line, deed_of, draw_at, drawn, kind_at, right_at, line_at, lines_from, state_after}
 use Rattle.made_scripts.specs.Scripts.{made}
 use Rattle.made_scripts.specs.Texts.{command_line, deed_text, first_line, line_text, right_text}
-use Rattle.made_scripts.specs.declared.deed.Deed.{Deed}
-use Rattle.made_scripts.specs.declared.deed.Deed.TheVariants.{CreateUser, CreateRole, GrantOnSchema, GrantRole, GrantEverywhere, RevokeOnSchema, UseSchema, CheckOnTable}
-use Rattle.made_scripts.specs.declared.deed.MadeLine.{MadeLine}
 use Rattle.made_scripts.specs.declared.deed.Right.{Right}
 use Rattle.made_scripts.specs.declared.deed.Right.TheVariants.{Select, Insert, Update, Delete}
 use Rattle.made_scripts.specs.declared.draws.Kind.{Kind}

@@ -6,7 +6,7 @@ use Rattle.acl_program.specs.declared.cause.Cause.TheVariants.{Fine}
 use Rattle.script_lines.specs.Texts.{command_lines}
 use Rattle.script_read.specs.Built.{IsBuiltCommand}
 use Rattle.script_run.specs.Forms.{is_built, keeps_rules}
-use Rattle.acl_program.proofs.serve.rehearse_bytes.Goals as goal
+use Rattle.acl_program.proofs.rehearse.rehearse_bytes.Goals as goal
 
 pub run_script-requires-clause-count : goal.run_script-requires-clause-count
 run_script-requires-clause-count c = lines_count (IsBuiltCommand is_built) c.args.bytes.now c.in-Ok.script.sessions c.in-Ok.script.lines c.in-Ok.ensures.found
@@ -23,12 +23,12 @@ run_script-requires-clause-rules c =
 
 pub returns-in-Ok-run_script-clause-due : goal.returns-in-Ok-run_script-clause-due
 returns-in-Ok-run_script-clause-due c =
-    λ words. due_read c.args.bytes.now words c.read_script_of.result c.in-Ok.script Fine c.in-Ok.is c.read_script_of.ensures.bad_line c.read_script_of.ensures.limit
+    due_read c.args.bytes.now c.read_script_of.result c.in-Ok.script Fine c.in-Ok.is c.read_script_of.ensures.bad_line c.read_script_of.ensures.limit
 
 pub returns-in-Err-clause-due : goal.returns-in-Err-clause-due
 returns-in-Err-clause-due c =
-    λ words. subst (IsDue words c.args.bytes.now) (sym c.cause_of_script.ensures)
-    (due_refused c.args.bytes.now words c.read_script_of.result c.in-Err.refusal c.in-Err.is c.read_script_of.ensures.bad_line c.read_script_of.ensures.limit)
+    subst (IsDue c.args.bytes.now) (sym c.cause_of_script.ensures)
+    (due_refused c.args.bytes.now c.read_script_of.result c.in-Err.refusal c.in-Err.is c.read_script_of.ensures.bad_line c.read_script_of.ensures.limit)
 
 pub returns-in-Err-clause-err : goal.returns-in-Err-clause-err
 returns-in-Err-clause-err c = λ e. refusal_is_not_fine c.in-Err.refusal (sym c.cause_of_script.ensures ∙ e)
