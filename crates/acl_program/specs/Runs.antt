@@ -1,5 +1,6 @@
 -- What the program runs for the form of its words: which bytes, and which text tells the report.
-use Rattle.std.specs.Prelude.{ℕ, List, [], Option, None, Some}
+use Rattle.std.specs.Prelude.{ℕ, if◌then◌else◌, List, [], ◌∷◌, codes, Option, None, Some}
+use Rattle.std.specs.Str.{bytes_eq}
 use Rattle.line_answers.specs.ReportTexts.{text_of_report}
 use Rattle.line_answers.specs.declared.report.Report.{Report}
 use Rattle.made_scripts.specs.Scripts.{made}
@@ -25,3 +26,9 @@ text_of (Make number sessions lines) report = text_of_summary report
 abbrev pub told_text : Option Form → Report → List ℕ
 told_text None report = []
 told_text (Some form) report = text_of form report
+
+-- the word that names a script which is read
+abbrev pub script_word : List (List ℕ) → Option (List ℕ)
+script_word [] = None
+script_word (command ∷ []) = None
+script_word (command ∷ script ∷ rest) = if bytes_eq command (codes "step") then Some script else None

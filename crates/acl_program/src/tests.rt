@@ -77,7 +77,7 @@ struct Case {
     told: &'static str,
 }
 
-static CASES: [Case; 22] = [
+static CASES: [Case; 29] = [
     Case {
         words: "step first.acl first.journal",
         failing: Failing::Nothing,
@@ -357,7 +357,86 @@ history 6
         failing: Failing::Read(0),
         status: 2,
         out: "",
-        told: "usage: acl step SCRIPT JOURNAL\n",
+        told: "usage: acl step SCRIPT JOURNAL, acl make NUMBER SESSIONS LINES\n",
+    },
+    Case {
+        words: "step a b c",
+        script: "",
+        failing: Failing::Read(0),
+        status: 2,
+        out: "",
+        told: "usage: acl step SCRIPT JOURNAL, acl make NUMBER SESSIONS LINES\n",
+    },
+    Case {
+        words: "make 1 65 1",
+        script: "",
+        failing: Failing::Read(0),
+        status: 2,
+        out: "",
+        told: "usage: acl step SCRIPT JOURNAL, acl make NUMBER SESSIONS LINES\n",
+    },
+    // A made script: the source is not read.
+    Case {
+        words: "make 0 1 1",
+        script: "no script",
+        failing: Failing::Read(0),
+        status: 0,
+        out: "lines 2
+history 1
+done 1
+refused 0
+allowed 0
+denied 0
+recomputed 0
+",
+        told: "",
+    },
+    Case {
+        words: "make 00 01 2",
+        script: "",
+        failing: Failing::Nothing,
+        status: 0,
+        out: "lines 3
+history 1
+done 1
+refused 1
+allowed 0
+denied 0
+recomputed 0
+",
+        told: "",
+    },
+    Case {
+        words: "make 18446744073709551615 4 1",
+        script: "",
+        failing: Failing::Nothing,
+        status: 0,
+        out: "lines 5
+history 0
+done 0
+refused 0
+allowed 1
+denied 0
+recomputed 0
+",
+        told: "",
+    },
+    // A made line whose form is not run yet.
+    Case {
+        words: "make 0 1 3",
+        script: "",
+        failing: Failing::Nothing,
+        status: 3,
+        out: "",
+        told: "line 4: syntax at 0\n",
+    },
+    Case {
+        words: "make 0 1 1",
+        script: "",
+        failing: Failing::Write(1),
+        status: 5,
+        out: "lin",
+        told: "write fault\n",
     },
     Case {
         words: "step a -b",
@@ -365,7 +444,7 @@ history 6
         failing: Failing::Nothing,
         status: 2,
         out: "",
-        told: "usage: acl step SCRIPT JOURNAL\n",
+        told: "usage: acl step SCRIPT JOURNAL, acl make NUMBER SESSIONS LINES\n",
     },
     // A form that is not run yet.
     Case {
