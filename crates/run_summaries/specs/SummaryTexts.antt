@@ -15,16 +15,15 @@ summary_of report = record {
   denied = told_count Denied report;
 }
 
--- a number under its name, on a line of its own
-abbrev pub count_line : List ℕ → ℕ → List ℕ
-count_line name count = name ++ (codes " " ++ (decimal count ++ codes "\n"))
-
+-- a line for each number, under its name
 abbrev pub summary_text : Summary → List ℕ
 summary_text summary =
-    count_line (codes "lines") summary.lines ++ (count_line (codes "history") summary.history ++
-    (count_line (codes "done") summary.done ++ (count_line (codes "refused") summary.refused ++
-    (count_line (codes "allowed") summary.allowed ++ (count_line (codes "denied") summary.denied ++
-    count_line (codes "recomputed") 0)))))
+    codes "lines " ++ (decimal summary.lines ++
+    (codes "\nhistory " ++ (decimal summary.history ++
+    (codes "\ndone " ++ (decimal summary.done ++
+    (codes "\nrefused " ++ (decimal summary.refused ++
+    (codes "\nallowed " ++ (decimal summary.allowed ++
+    (codes "\ndenied " ++ (decimal summary.denied ++ codes "\nrecomputed 0\n")))))))))))
 
 -- the report in numbers
 abbrev pub text_of_summary : Report → List ℕ

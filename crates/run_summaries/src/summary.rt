@@ -55,10 +55,9 @@ impl fmt::Display for Summary {
             allowed,
             denied,
         } = *self;
-        writeln!(
+        write!(
             f,
-            "lines {lines}\nhistory {history}\ndone {done}\nrefused {refused}"
-        )?;
-        writeln!(f, "allowed {allowed}\ndenied {denied}\nrecomputed 0")
+            "lines {lines}\nhistory {history}\ndone {done}\nrefused {refused}\nallowed {allowed}\ndenied {denied}\nrecomputed 0\n"
+        )
     }
 }
