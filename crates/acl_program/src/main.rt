@@ -42,17 +42,20 @@ fn main(rt: HostRuntime) -> ExitCode {
 // The words after the program's name. Where one is not UTF-8 there are none, which is a faulty command line.
 fn words_of(rt: &HostRuntime) -> io::Result<Vec<String>> {
     match env::args(rt) {
-        Ok(words) => Ok(all_but_first(rt.alloc(), words)?),
+        Ok(words) => {
+            let words = words.collect(rt.alloc())?;
+            Ok(all_but_first(rt.alloc(), words)?)
+        }
         Err(error) if error.kind() == io::ErrorKind::InvalidData => Ok(Vec::new(rt.alloc())),
         Err(error) => Err(error),
     }
 }
 
 // All words but the first, which is the program's name.
-fn all_but_first(alloc: Global, words: env::Args) -> Result<Vec<String>, AllocError>
-    ensures { IfOk result (λ rest. rest.items ≡ drop 1 words.rest) }
+fn all_but_first(alloc: Global, words: Vec<String>) -> Result<Vec<String>, AllocError>
+    ensures { IfOk result (λ rest. rest.items ≡ drop 1 words.items) }
 {
-    words.skip(1).collect(alloc)
+    words.into_iter().skip(1).collect(alloc)
 }
 
 // The word that names a script which is read.

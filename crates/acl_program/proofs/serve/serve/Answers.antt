@@ -14,7 +14,7 @@ returns-in-Err-clause-limit g c =
     (due_as _ _ _ c.ended.ensures.cause c.in-Err.ensures.due)
 
 pub returns-in_default-clause-taken : goal.returns-in_default-clause-taken
-returns-in_default-clause-taken g c = read_for_later _ _ _ c.ended-in_default.ensures.cause c.in-Ok.ensures.read
+returns-in_default-clause-taken g c = λ step. read_for_later _ _ _ c.ended-in_default.ensures.cause (c.in-Ok.ensures.taken step)
 
 pub returns-in-Ok-write_all-clause-bad_script : goal.returns-in-Ok-write_all-clause-bad_script
 returns-in-Ok-write_all-clause-bad_script g c = bad_script_exactly _ Fine c.in-Ok.ensures.cause c.in-Ok.ensures.due
