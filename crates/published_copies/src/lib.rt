@@ -1,0 +1,9 @@
+//! A value that stands for a list of entries, in two published copies: one publisher changes it, and views read it without a lock.
+//! A view never reads less than it read or was told before.
+#![tactic(auto)]
+
+mod history;
+mod stage;
+
+pub use history::Mark;
+pub use stage::{Notice, Stage};
