@@ -2,8 +2,13 @@
 //! A view never reads less than it read or was told before.
 #![tactic(auto)]
 
+mod copies;
+mod heard;
 mod history;
+mod listed;
 mod stage;
 
+pub use copies::Shown;
 pub use history::Mark;
+pub use listed::Listed;
 pub use stage::{Notice, Stage};
