@@ -1,3 +1,5 @@
 pub mod Beginnings
 pub mod Chains
 pub mod Adding
+pub mod Rules
+pub mod Hearing

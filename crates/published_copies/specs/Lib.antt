@@ -1,3 +1,4 @@
 pub mod Stages
 pub mod History
 pub mod Copies
+pub mod Views

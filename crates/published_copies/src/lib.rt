@@ -3,12 +3,16 @@
 #![tactic(auto)]
 
 mod copies;
+mod front;
 mod heard;
 mod history;
 mod listed;
 mod stage;
+mod view;
 
 pub use copies::Shown;
+pub use front::Front;
 pub use history::Mark;
 pub use listed::Listed;
 pub use stage::{Notice, Stage};
+pub use view::{NoEntry, View};

@@ -1,0 +1,77 @@
+-- What fronts, views and publishers are seen as.
+use Rattle.std.specs.Prelude.{◌≡◌, ℕ, ◌≤◌, Bool, not, false, List, [], ◌∷◌, ◌++◌, length, fold, Option, Some, All}
+use Rattle.std.specs.List.{count_by}
+use mathlib.Core.List.{IsPrefix}
+use Rattle.logbook.specs.Pages.{Book, Named}
+use Rattle.published_copies.specs.declared.stage.Stage.{Stage}
+use Rattle.published_copies.specs.declared.stage.Notice.{Notice}
+use Rattle.published_copies.specs.declared.copies.Shown.{Shown}
+use Rattle.published_copies.specs.declared.copies.Content.{Content}
+use Rattle.published_copies.specs.declared.copies.Operation.{Operation}
+use Rattle.published_copies.specs.declared.history.Mark.{Mark}
+use Rattle.published_copies.specs.Stages.{GoesOn, last_of}
+use Rattle.published_copies.specs.History.{head_of}
+use Rattle.published_copies.specs.Copies.{applied, content_of}
+
+-- the publisher, and the list that was published when the front was given
+pub record Token (E : Type 0) : Type 0 where
+  pub book : Book
+  pub stage : Stage E
+
+-- the publisher, and what was read and told, the newest first
+pub record Watch (E : Type 0) : Type 0 where
+  pub book : Book
+  pub heard : List (Notice E)
+
+-- which publisher it is, what it shows, and what was handed over to it
+pub record Standing (E : Type 0) : Type 0 where
+  pub book : Book
+  pub published : Stage E
+  pub handed : Stage E
+
+module _ {E : Type 0} where
+  -- the list goes on from each that was heard
+  abbrev pub AllBefore : List (Notice E) → Stage E → Type 0
+  AllBefore heard s = All (λ notice. GoesOn notice.stage s) heard
+
+  abbrev pub was_read : Notice E → Bool
+  was_read notice = not notice.told
+
+  -- how many reads were answered
+  abbrev pub reads : List (Notice E) → ℕ
+  reads heard = count_by was_read heard
+
+  abbrev pub read_of : Stage E → Notice E
+  read_of s = record { stage = s; told = false }
+
+  -- what was read last has n entries
+  abbrev pub HasJustRead : Watch E → ℕ → Type 0
+  HasJustRead watch n = (s : Stage E) × (before : List (Notice E)) × (watch.heard ≡ read_of s ∷ before) × (n ≡ length s.entries)
+
+  -- the same view, which has heard more
+  abbrev pub HasHeardMore : Watch E → Watch E → Type 0
+  HasHeardMore old new = (new.book ≡ old.book) × ((more : List (Notice E)) × (new.heard ≡ more ++ old.heard))
+
+module _ {P E : Type 0} where
+  -- a value of this publisher was seen
+  abbrev pub KnowsBook : Option (Shown P E) → Book → Type 0
+  KnowsBook seat book = (y : Shown P E) × (seat ≡ Some y) × (y.mark.seen.book ≡ book)
+
+  module _ (stage_of : P → Stage E) where
+    -- what both copies come to once all that is pending is done
+    abbrev pub content_after : Shown P E → List (Operation E) → Content E
+    content_after shown pending = fold applied (content_of stage_of shown) pending
+
+    abbrev pub handed : Shown P E → List (Operation E) → Stage E
+    handed shown pending = (content_after shown pending).stage
+
+    -- what is pending ends with the mark of what it comes to
+    abbrev pub IsReady : Shown P E → List (Operation E) → Type 0
+    IsReady shown pending = (last_of (content_after shown pending).mark.seen.log ≡ handed shown pending) × ((content_after shown pending).mark.seen.book ≡ shown.mark.seen.book)
+
+    -- the word and the seat are of the mark's history, and what was handed over goes on from what the history has
+    pub record IsStanding (shown : Shown P E) (pending : List (Operation E)) (seat : Option (Shown P E)) (head : Named) (mark : Mark E) : Type 0 where
+      pub own : head ≡ head_of mark.seen.book
+      pub same : shown.mark.seen.book ≡ mark.seen.book
+      pub knows : KnowsBook seat mark.seen.book
+      pub on : GoesOn (last_of mark.seen.log) (handed shown pending)
