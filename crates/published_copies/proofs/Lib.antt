@@ -3,3 +3,4 @@ pub mod Chains
 pub mod Adding
 pub mod Rules
 pub mod Hearing
+pub mod Pending

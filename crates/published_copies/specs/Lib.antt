@@ -1,4 +1,5 @@
 pub mod Stages
 pub mod History
+pub mod Contents
 pub mod Copies
 pub mod Views

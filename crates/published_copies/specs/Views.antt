@@ -5,13 +5,13 @@ use mathlib.Core.List.{IsPrefix}
 use Rattle.logbook.specs.Pages.{Book, Named}
 use Rattle.published_copies.specs.declared.stage.Stage.{Stage}
 use Rattle.published_copies.specs.declared.stage.Notice.{Notice}
-use Rattle.published_copies.specs.declared.copies.Shown.{Shown}
 use Rattle.published_copies.specs.declared.copies.Content.{Content}
 use Rattle.published_copies.specs.declared.copies.Operation.{Operation}
 use Rattle.published_copies.specs.declared.history.Mark.{Mark}
 use Rattle.published_copies.specs.Stages.{GoesOn, last_of}
 use Rattle.published_copies.specs.History.{head_of}
-use Rattle.published_copies.specs.Copies.{applied, content_of}
+use Rattle.published_copies.specs.Contents.{applied}
+use Rattle.published_copies.specs.Copies.{book_of, IsTied, KnowsBook}
 
 -- the publisher, and the list that was published when the front was given
 pub record Token (E : Type 0) : Type 0 where
@@ -52,26 +52,37 @@ module _ {E : Type 0} where
   abbrev pub HasHeardMore : Watch E → Watch E → Type 0
   HasHeardMore old new = (new.book ≡ old.book) × ((more : List (Notice E)) × (new.heard ≡ more ++ old.heard))
 
-module _ {P E : Type 0} where
-  -- a value of this publisher was seen
-  abbrev pub KnowsBook : Option (Shown P E) → Book → Type 0
-  KnowsBook seat book = (y : Shown P E) × (seat ≡ Some y) × (y.mark.seen.book ≡ book)
+module _ {S E : Type 0} (content_of : S → Content E) where
+  -- what both copies come to once all that is pending is done
+  abbrev pub content_after : S → List (Operation E) → Content E
+  content_after shown pending = fold applied (content_of shown) pending
 
-  module _ (stage_of : P → Stage E) where
-    -- what both copies come to once all that is pending is done
-    abbrev pub content_after : Shown P E → List (Operation E) → Content E
-    content_after shown pending = fold applied (content_of stage_of shown) pending
+  abbrev pub handed : S → List (Operation E) → Stage E
+  handed shown pending = (content_after shown pending).stage
 
-    abbrev pub handed : Shown P E → List (Operation E) → Stage E
-    handed shown pending = (content_after shown pending).stage
+  -- what is pending ends with the mark of what it comes to
+  abbrev pub IsReady : S → List (Operation E) → Type 0
+  IsReady shown pending = (last_of (content_after shown pending).mark.seen.log ≡ handed shown pending) × ((content_after shown pending).mark.seen.book ≡ book_of content_of shown)
 
-    -- what is pending ends with the mark of what it comes to
-    abbrev pub IsReady : Shown P E → List (Operation E) → Type 0
-    IsReady shown pending = (last_of (content_after shown pending).mark.seen.log ≡ handed shown pending) × ((content_after shown pending).mark.seen.book ≡ shown.mark.seen.book)
+  -- the word and the seat are of the mark's history, and what was handed over goes on from what the history has
+  pub record IsStanding (shown : S) (pending : List (Operation E)) (seat : Option S) (head : Named) (mark : Mark E) : Type 0 where
+    pub own : head ≡ head_of mark.seen.book
+    pub same : book_of content_of shown ≡ mark.seen.book
+    pub knows : KnowsBook content_of seat mark.seen.book
+    pub on : GoesOn (last_of mark.seen.log) (handed shown pending)
 
-    -- the word and the seat are of the mark's history, and what was handed over goes on from what the history has
-    pub record IsStanding (shown : Shown P E) (pending : List (Operation E)) (seat : Option (Shown P E)) (head : Named) (mark : Mark E) : Type 0 where
-      pub own : head ≡ head_of mark.seen.book
-      pub same : shown.mark.seen.book ≡ mark.seen.book
-      pub knows : KnowsBook seat mark.seen.book
-      pub on : GoesOn (last_of mark.seen.log) (handed shown pending)
+module _ {S E T : Type 0} (content_of : S → Content E) (Returns : S → T → Type 0) (turn : ℕ) (before after : Option S) where
+  -- A value with so many publications was seen, of the publisher that was known, and this came of it, with its mark
+  pub record Answered (answer : T) (mark : Mark E) : Type 0 where
+    pub shown : S
+    pub sits : after ≡ Some shown
+    pub tied : IsTied content_of shown
+    pub late : turn ≤ (content_of shown).mark.turn
+    pub same : (book : Book) → KnowsBook content_of before book → book_of content_of shown ≡ book
+    pub marked : mark ≡ (content_of shown).mark
+    pub returned : Returns shown answer
+
+module _ {S E : Type 0} (content_of : S → Content E) where
+  -- whatever publisher was known is known still
+  abbrev pub KnowsStill : Option S → Option S → Type 0
+  KnowsStill before after = (book : Book) → KnowsBook content_of before book → KnowsBook content_of after book

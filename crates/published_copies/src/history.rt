@@ -66,7 +66,7 @@ impl<E> Mark<E> {
     }
 
     /// A copy.
-    pub(crate) fn again(&self) -> Mark<E>
+    pub fn again(&self) -> Mark<E>
         ensures { result ≡ self.now }
     {
         Mark {

@@ -6,13 +6,13 @@ mod copies;
 mod front;
 mod heard;
 mod history;
-mod listed;
 mod stage;
+mod state;
 mod view;
 
-pub use copies::Shown;
+pub use copies::{Content, Operation, PublishedCopy};
 pub use front::Front;
 pub use history::Mark;
-pub use listed::Listed;
 pub use stage::{Notice, Stage};
+pub use state::Missed;
 pub use view::{NoEntry, View};

@@ -3,23 +3,20 @@ ghost use Rattle.std.specs.Prelude.{◌≡◌, ◌≤◌, [], ◌∷◌, true, f
 ghost use Rattle.std.specs.Fn.{FnOnceReturnsAt};
 ghost use Rattle.logbook.specs.Pages.{Book};
 ghost use Rattle.left_right.specs.Sides.{view};
-ghost use Rattle.published_copies.specs.declared.copies.Shown.{Shown as Seen};
 ghost use Rattle.published_copies.specs.Stages.{last_of};
-ghost use Rattle.published_copies.specs.Copies.{IsTied};
-ghost use Rattle.published_copies.specs.Views.{AllBefore, KnowsBook, read_of};
+ghost use Rattle.published_copies.specs.Copies.{IsTied, KnowsBook, book_of};
+ghost use Rattle.published_copies.specs.Views.{AllBefore, Answered, KnowsStill, read_of};
 
-use crate::copies::{Copies, Sees, Shown};
+use crate::copies::{Copies, PublishedCopy, Sees};
 use crate::front::Front;
 use crate::heard::Heard;
 use crate::history::Mark;
-use crate::listed::Listed;
 use left_right::reader::{Reader, Reading};
-use std::marker::{Model, PhantomData};
-use core::mem::replace_with;
+use std::marker::Model;
 
-pub(crate) type Place<P, E> = Reader<Shown<P, E>, Option<Shown<P, E>>, Copies>;
+pub(crate) type Place<S, E> = Reader<S, Option<S>, Copies<E>>;
 
-type Open<P, E> = Reading<Shown<P, E>, Option<Shown<P, E>>, Copies>;
+type Open<S, E> = Reading<S, Option<S>, Copies<E>>;
 
 /// The view was given no value in this call, or one that it could not show to go on from what it knows.
 #[derive(Drop)]
@@ -29,81 +26,75 @@ pub struct NoEntry {
 
 /// Reads what is published. It takes no memory and waits for nobody, and may go to another thread.
 #[derive(Drop)]
-pub struct View<P: Listed<E>, E: Drop> {
-    reader: Place<P, E>,
+pub struct View<S: PublishedCopy<E>, E: Drop> {
+    // It is away in a read alone.
+    reader: Option<Place<S, E>>,
     known: Mark<E>,
     heard: Heard<E>,
 }
 
-impl<P: Listed<E>, E: Drop> Model for View<P, E> {
+impl<S: PublishedCopy<E>, E: Drop> Model for View<S, E> {
     ghost use Rattle.published_copies.specs.Views.{Watch};
 
     ghost Value = { Watch E };
 
+    ghost use Rattle.std.specs.Prelude.{IsSomeAnd};
     ghost use Rattle.left_right.specs.Sides.{view as seat_view};
     ghost use Rattle.published_copies.specs.Stages.{last_of};
-    ghost use Rattle.published_copies.specs.Views.{AllBefore, KnowsBook};
+    ghost use Rattle.published_copies.specs.Copies.{KnowsBook};
+    ghost use Rattle.published_copies.specs.Views.{AllBefore};
 
     ghost view = { λ v. record { book = v.known.seen.book; heard = v.heard.kept.log } };
 
-    ghost invariant = { λ v. KnowsBook (seat_view v.reader.place) v.known.seen.book × AllBefore v.heard.kept.log (last_of v.known.seen.log) };
-}
-
-// What is asked of the value, and how many publications it needs to have.
-struct Asked<T, F: Drop> {
-    f: F,
-    turn: u64,
-    answer: PhantomData<T>,
+    ghost invariant = { λ v. IsSomeAnd v.reader (λ r. KnowsBook S.state (seat_view r.place) v.known.seen.book) × AllBefore v.heard.kept.log (last_of v.known.seen.log) };
 }
 
 // Takes the value that is published. The reader comes back where it has fewer publications than are known.
-fn entered<P: Listed<E>, E: Drop>(
-    reader: Place<P, E>,
+fn entered<S: PublishedCopy<E>, E: Drop>(
+    reader: Place<S, E>,
     turn: u64,
-) -> Result<Open<P, E>, Place<P, E>>
+) -> Result<Open<S, E>, Place<S, E>>
     ensures { MatchResult result
-        (λ r. (view r.place ≡ Some r.part.value) × IsTied P.stage r.part.value × (turn ≤ r.part.value.mark.turn)
-            × ((b : Book) → KnowsBook (view reader.place) b → r.part.value.mark.seen.book ≡ b))
-        (λ r. (b : Book) → KnowsBook (view reader.place) b → KnowsBook (view r.place) b) }
+        (λ r. (view r.place ≡ Some r.part.value) × IsTied S.state r.part.value × (turn ≤ (S.state r.part.value).mark.turn)
+            × ((b : Book) → KnowsBook S.state (view reader.place) b → book_of S.state r.part.value ≡ b))
+        (λ r. KnowsStill S.state (view reader.place) (view r.place)) }
 {
-    match reader.enter_as::<Sees>() {
-        Ok(reading) if turn <= reading.get().mark.turn => Ok(reading),
+    match reader.enter_as::<Sees<E>>() {
+        Ok(reading) if turn <= reading.get().mark().turn => Ok(reading),
         Ok(reading) => Err(reading.leave()),
         Err(reader) => Err(reader),
     }
 }
 
-fn ask<P: Listed<E>, E: Drop, T, F: FnOnce(&P) -> T + Drop>(
-    reader: Place<P, E>,
-    asked: Asked<T, F>,
-) -> (Place<P, E>, Result<(T, Mark<E>), NoEntry>)
-    requires { F.IsAlwaysCallable asked.f }
+fn ask<S: PublishedCopy<E>, E: Drop, T, F: FnOnce(&S::Value) -> T + Drop>(
+    reader: Place<S, E>,
+    turn: u64,
+    f: F,
+) -> (Place<S, E>, Result<(T, Mark<E>), NoEntry>)
+    requires { F.IsAlwaysCallable f }
     ensures { MatchResult result.1
-        (λ r. (y : Seen P E) × (view result.0.place ≡ Some y) × IsTied P.stage y × (asked.turn ≤ y.mark.turn)
-            × ((b : Book) → KnowsBook (view reader.place) b → y.mark.seen.book ≡ b)
-            × (r.1 ≡ y.mark) × FnOnceReturnsAt F.FnOnce asked.f y.now r.0)
-        (λ _. (b : Book) → KnowsBook (view reader.place) b → KnowsBook (view result.0.place) b) }
+        (λ r. Answered S.state (λ y answer. FnOnceReturnsAt F.FnOnce f (S.shown y) answer) turn (view reader.place) (view result.0.place) r.0 r.1)
+        (λ _. KnowsStill S.state (view reader.place) (view result.0.place)) }
 {
-    let Asked { f, turn, answer: _ } = asked;
     match entered(reader, turn) {
         Ok(reading) => {
             let shown = reading.get();
-            let mark = shown.mark.again();
-            let answer = f(&shown.now);
+            let mark = shown.mark().again();
+            let answer = f(shown.value());
             (reading.leave(), Ok((answer, mark)))
         }
         Err(reader) => (reader, Err(NoEntry { made: () })),
     }
 }
 
-impl<P: Listed<E>, E: Drop> View<P, E> {
+impl<S: PublishedCopy<E>, E: Drop> View<S, E> {
     // The view behind a reader that knows the publisher of the mark.
-    pub(crate) fn over(reader: Place<P, E>, mark: &Mark<E>) -> View<P, E>
-        requires { KnowsBook (view reader.place) mark.now.seen.book }
+    pub(crate) fn over(reader: Place<S, E>, mark: &Mark<E>) -> View<S, E>
+        requires { KnowsBook S.state (view reader.place) mark.now.seen.book }
         ensures { (result.book ≡ mark.now.seen.book) × (result.heard ≡ []) }
     {
         View {
-            reader,
+            reader: Some(reader),
             known: mark.again(),
             heard: Heard::nothing(),
         }
@@ -120,24 +111,28 @@ impl<P: Listed<E>, E: Drop> View<P, E> {
     }
 
     /// Reads what is published by `f`, which is not called where there is no value. It takes no memory and waits for nobody.
-    pub fn read<T, F: FnOnce(&P) -> T + Drop>(&mut self, f: F) -> Result<T, NoEntry>
+    pub fn read<T, F: FnOnce(&S::Value) -> T + Drop>(&mut self, f: F) -> Result<T, NoEntry>
         requires { F.IsAlwaysCallable f }
         ensures book { self.new.book ≡ self.old.book }
         ensures read { MatchResult result
-            (λ answer. (p : P) × FnOnceReturnsAt F.FnOnce f p answer × AllBefore self.old.heard (P.stage p)
-                × (self.new.heard ≡ read_of (P.stage p) ∷ self.old.heard))
+            (λ answer. (p : S.Value) × FnOnceReturnsAt F.FnOnce f p answer × AllBefore self.old.heard (S.stage p)
+                × (self.new.heard ≡ read_of (S.stage p) ∷ self.old.heard))
             (λ _. self.new ≡ self.old) }
     {
-        let asked = Asked {
-            f,
-            turn: self.known.turn,
-            answer: PhantomData,
+        let Some(reader) = self.reader.take() else {
+            unreachable!()
         };
-        let (answer, mark) = replace_with(&mut self.reader, asked, ask)?;
-        let mut both = self.known.seen.again();
-        both.learn(&mark.seen);
-        self.heard = self.heard.read(&mark);
-        self.known = mark;
-        Ok(answer)
+        let (reader, answer) = ask(reader, self.known.turn, f);
+        self.reader = Some(reader);
+        match answer {
+            Ok((answer, mark)) => {
+                let mut both = self.known.seen.again();
+                both.learn(&mark.seen);
+                self.heard = self.heard.read(&mark);
+                self.known = mark;
+                Ok(answer)
+            }
+            Err(none) => Err(none),
+        }
     }
 }
