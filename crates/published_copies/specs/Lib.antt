@@ -3,3 +3,4 @@ pub mod History
 pub mod Contents
 pub mod Copies
 pub mod Views
+pub mod Awaiting

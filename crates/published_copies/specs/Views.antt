@@ -1,5 +1,5 @@
 -- What fronts, views and publishers are seen as.
-use Rattle.std.specs.Prelude.{◌≡◌, ℕ, ◌≤◌, Bool, not, false, List, [], ◌∷◌, ◌++◌, length, fold, Option, Some, All}
+use Rattle.std.specs.Prelude.{◌≡◌, ℕ, ◌≤◌, Bool, not, false, List, [], ◌∷◌, ◌++◌, length, fold, Option, Some, None, All}
 use Rattle.std.specs.List.{count_by}
 use mathlib.Core.List.{IsPrefix}
 use Rattle.logbook.specs.Pages.{Book, Named}
@@ -8,7 +8,7 @@ use Rattle.published_copies.specs.declared.stage.Notice.{Notice}
 use Rattle.published_copies.specs.declared.copies.Content.{Content}
 use Rattle.published_copies.specs.declared.copies.Operation.{Operation}
 use Rattle.published_copies.specs.declared.history.Mark.{Mark}
-use Rattle.published_copies.specs.Stages.{GoesOn, last_of}
+use Rattle.published_copies.specs.Stages.{nothing, GoesOn, last_of}
 use Rattle.published_copies.specs.History.{head_of}
 use Rattle.published_copies.specs.Contents.{applied}
 use Rattle.published_copies.specs.Copies.{book_of, IsTied, KnowsBook}
@@ -28,6 +28,11 @@ pub record Standing (E : Type 0) : Type 0 where
   pub book : Book
   pub published : Stage E
   pub handed : Stage E
+
+-- what a publisher stands at, which is away in a publication alone
+abbrev pub standing_in : {E : Type 0} → Option (Standing E) → Standing E
+standing_in (Some standing) = standing
+standing_in None = record { book = record { number = 0; log_name = 0; cells_name = 0 }; published = nothing; handed = nothing }
 
 module _ {E : Type 0} where
   -- the list goes on from each that was heard

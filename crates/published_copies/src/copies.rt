@@ -32,7 +32,7 @@ pub enum Operation<E> {
 /// What else the value keeps of its entries is said by its own type.
 pub trait PublishedCopy<E: Drop>: Absorb<Operation<E>, State = Content<E>> + Drop {
     /// What is read.
-    type Value;
+    type Value: Drop;
 
     ghost shown: { Self → Self.Value };
 

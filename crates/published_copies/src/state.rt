@@ -1,17 +1,19 @@
 //! What a publisher holds: the writer of the two copies, and the history of what it published.
-ghost use Rattle.std.specs.Prelude.{◌≡◌, ◌++◌, ◌∷◌, [], false, drop, MatchResult, OnOk};
+ghost use Rattle.std.specs.Prelude.{◌≡◌, ◌<◌, ◌++◌, ◌∷◌, [], false, drop, vec_len, All, IfOk, MatchResult, OnOk};
 ghost use Rattle.left_right.specs.Sides.{view};
 ghost use Rattle.published_copies.specs.Stages.{with_entry, with_end};
-ghost use Rattle.published_copies.specs.Copies.{KnowsBook, book_of};
+ghost use Rattle.published_copies.specs.Copies.{KnowsBook, IsTied, book_of};
 ghost use Rattle.published_copies.specs.Views.{content_after, handed, IsReady, IsStanding};
 
-use crate::copies::{Copies, Operation, PublishedCopy, Sees};
+use crate::copies::{Copies, Operation, PublishedCopy, Sees, Takes, Twice};
 use crate::front::Front;
 use crate::history::{Law, Mark};
 use crate::stage::Stage;
+use crate::view::View;
 use left_right::writer::Writer;
 use logbook::{Plain, Word};
-use std::marker::Model;
+use std::alloc::{AllocError, Global};
+use std::marker::{Model, PhantomData};
 use std::sync::Wait;
 
 pub(crate) type Pair<S, E> = Writer<S, Operation<E>, Option<S>, Copies<E>>;
@@ -36,6 +38,19 @@ impl<S: PublishedCopy<E>, E: Drop> Plain<Pair<S, E>, Stage<E>, u64> for Whole {
     ghost use Rattle.published_copies.specs.Views.{handed};
 
     ghost ask = { λ w. handed S.state w.desk.shown.value (drop w.behind w.log.items) };
+
+    ghost state = { λ _. None };
+}
+
+/// What the first publication asks the history for: what the publisher begins with.
+struct Begins<S, E> {
+    of: PhantomData<(S, E)>,
+}
+
+impl<S: PublishedCopy<E>, E: Drop> Plain<S::Value, Stage<E>, u64> for Begins<S, E> {
+    ghost use Rattle.std.specs.Prelude.{None};
+
+    ghost ask = { λ p. S.stage p };
 
     ghost state = { λ _. None };
 }
@@ -120,7 +135,82 @@ fn set_mark<S: PublishedCopy<E>, E: Drop>(
     hand_over(writer, Operation::Marked(next))
 }
 
+// The writer of two copies that stand alike, one of which is shown.
+fn written<S: PublishedCopy<E>, E: Drop, R: Wait>(
+    rt: &R,
+    alloc: Global,
+    first: S,
+    second: S,
+    views: u32,
+) -> Result<Pair<S, E>, AllocError>
+    requires views { 0 < views }
+    requires alike { S.state first ≡ S.state second }
+    requires tied { IsTied S.state first }
+    ensures { IfOk result (λ w. (S.state w.desk.shown.value ≡ S.state first) × (drop w.behind w.log.items ≡ [])
+        × KnowsBook S.state (view w.desk.place) (book_of S.state first)) }
+{
+    let writer = Writer::new(alloc, first, second, views as usize)?;
+    let (writer, shown) = show(writer, rt);
+    match shown {
+        Ok(()) => Ok(writer),
+        Err(_) => {
+            writer.take(rt);
+            Err(AllocError)
+        }
+    }
+}
+
 impl<S: PublishedCopy<E>, E: Drop> State<S, E> {
+    // Two values that stand for the same list are what is published first.
+    pub(crate) fn new<R: Wait>(
+        rt: &R,
+        alloc: Global,
+        first: S::Value,
+        second: S::Value,
+        views: u32,
+    ) -> Result<State<S, E>, AllocError>
+        requires views { 0 < views }
+        requires alike { S.stage first ≡ S.stage second }
+        ensures { IfOk result (λ s. (s.published ≡ S.stage first) × (s.handed ≡ S.stage first)) }
+    {
+        let (head, none) = Mark::first();
+        let Some(mark) = none.add::<S::Value, Begins<S, E>>(&head, &first) else {
+            return Err(AllocError);
+        };
+        let first = S::over(alloc, first, mark.again());
+        let second = S::over(alloc, second, mark.again());
+        match written(rt, alloc, first, second, views) {
+            Ok(writer) => Ok(State { writer, head, mark }),
+            Err(refused) => Err(refused),
+        }
+    }
+
+    // A view that has heard nothing, and knows the publisher.
+    fn view(&mut self) -> Result<View<S, E>, AllocError>
+        ensures same { self.new ≡ self.old }
+        ensures made { IfOk result (λ v. v ≡ record { book = self.old.book; heard = [] }) }
+    {
+        let mut reader = self.writer.factory().reader()?;
+        reader.learn::<Takes>(self.writer.tell::<Twice>());
+        Ok(View::over(reader, &self.mark))
+    }
+
+    pub(crate) fn views(
+        &mut self,
+        alloc: Global,
+        count: u32,
+    ) -> Result<Vec<View<S, E>>, AllocError>
+        ensures same { self.new ≡ self.old }
+        ensures made { IfOk result (λ all. (vec_len all ≡ count) × All (λ v. v ≡ record { book = self.old.book; heard = [] }) all.items) }
+    {
+        let mut all = Vec::new(alloc);
+        for _ in 0..count {
+            let view = self.view()?;
+            all.push(view)?;
+        }
+        Ok(all)
+    }
+
     pub(crate) fn append(&mut self, entry: E) -> Result<(), Missed>
         requires { self.old.handed.ended ≡ false }
         ensures kept { (self.new.book ≡ self.old.book) × (self.new.published ≡ self.old.published) × (self.new.handed.ended ≡ false) }
@@ -160,5 +250,13 @@ impl<S: PublishedCopy<E>, E: Drop> State<S, E> {
         ensures { result ≡ record { book = self.now.book; stage = self.now.published } }
     {
         Front::at(self.writer.published().mark().again())
+    }
+    pub(crate) fn take<R: Wait>(self, rt: &R) {
+        let State {
+            writer,
+            head: _head,
+            mark: _mark,
+        } = self;
+        writer.take(rt);
     }
 }
