@@ -57,6 +57,19 @@ module _ {S E : Type 0} (content_of : S → Content E) where
     on = on;
   }
 
+  -- the publisher stands once its first value is shown
+  pub standing_first : (x first : S) (pending : Operations) (seat : Option S) (head : Named) (mark copy : Mark E) (s : Stage E)
+      → content_of x ≡ content_of first → content_of first ≡ record { stage = s; mark = copy } → copy ≡ mark → pending ≡ [] → KnowsBook content_of seat (book_of content_of first)
+      → head ≡ head_of mark.seen.book → last_of mark.seen.log ≡ s → IsStanding content_of x pending seat head mark
+  standing_first x first pending seat head mark copy s shown made same none knows own last =
+      let book : book_of content_of first ≡ mark.seen.book = ap (λ (c : Content E). c.mark.seen.book) made ∙ ap (λ (m : Mark E). m.seen.book) same in
+      let all : handed content_of x pending ≡ s = ap (handed content_of x) none ∙ (ap (λ (c : Content E). c.stage) shown ∙ ap (λ (c : Content E). c.stage) made) in record {
+        own = own;
+        same = ap (λ (c : Content E). c.mark.seen.book) shown ∙ book;
+        knows = (knows.0, knows.1, knows.2 ∙ book);
+        on = subst (λ (t : Stage E). GoesOn t (handed content_of x pending)) (all ∙ sym last) (goes_self (handed content_of x pending));
+      }
+
   -- equal parts stand alike
   pub standing_moved : (x y : S) (pending : Operations) (seat seat' : Option S) (head : Named) (mark mark' : Mark E)
       → IsStanding content_of x pending seat head mark → y ≡ x → seat' ≡ seat → mark' ≡ mark → IsStanding content_of y pending seat' head mark'
