@@ -49,7 +49,7 @@ module _ {E : Type 0} where
   pub chain_added : (log : List (Stage E)) (s : Stage E) → IsChain log → GoesOn (last_of log) s → IsChain (log ++ s ∷ [])
   chain_added log s chain on i j le h = let size = length-append log (s ∷ []) in dite (dec_lt j (length log))
       (λ (l : j < length log). subst (λ (x : Stage E). GoesOn x (stage_at (log ++ s ∷ []) j)) (sym (get_or-append log (s ∷ []) nothing i (omega arith)))
-          (subst (λ (x : Stage E). GoesOn (stage_at log i) x) (sym (get_or-append log (s ∷ []) nothing j l)) (chain i j le l)))
+      (subst (λ (x : Stage E). GoesOn (stage_at log i) x) (sym (get_or-append log (s ∷ []) nothing j l)) (chain i j le l)))
       (λ (n : ¬ (j < length log)). let e : j ≡ length log = omega arith in
       subst (λ (x : Stage E). GoesOn (stage_at (log ++ s ∷ []) i) x) (sym (ap (λ (k : ℕ). stage_at (log ++ s ∷ []) k) e ∙ get_or-append_seam log s [] nothing)) (chain_one log s i chain on (omega arith)))
 
@@ -65,5 +65,5 @@ module _ {E : Type 0} where
   chain_meet xs ys log p q le chain = dite (dec_lt 0 (length xs))
       (λ (some : 0 < length xs). let short = prefix_length ys log q in
       subst (λ (x : Stage E). GoesOn x (last_of ys)) (sym (last_within xs log p some))
-          (subst (λ (x : Stage E). GoesOn (stage_at log (length xs - 1)) x) (sym (last_within ys log q (omega arith))) (chain (length xs - 1) (length ys - 1) (omega arith) (omega arith))))
+      (subst (λ (x : Stage E). GoesOn (stage_at log (length xs - 1)) x) (sym (last_within ys log q (omega arith))) (chain (length xs - 1) (length ys - 1) (omega arith) (omega arith))))
       (λ (none : ¬ (0 < length xs)). subst (λ (x : Stage E). GoesOn x (last_of ys)) (sym (last_none xs (omega arith))) (goes_nothing (last_of ys)))

@@ -2,7 +2,7 @@
 ghost use Rattle.std.specs.Prelude.{◌≡◌, ◌<◌, ◌∷◌, true, length, All, IfOk, MatchResult};
 ghost use mathlib.Core.List.{IsPrefix};
 ghost use Rattle.published_copies.specs.declared.stage.Stage.{Stage};
-ghost use Rattle.published_copies.specs.Views.{HasHeardMore, HasJustRead, read_of};
+ghost use Rattle.published_copies.specs.Views.{AllBefore, HasHeardMore, HasJustRead, read_of};
 ghost use Rattle.published_copies.specs.Awaiting.{IsAwaited};
 
 use crate::copies::PublishedCopy;
@@ -20,12 +20,14 @@ pub enum Awaited {
 fn read_length<S: PublishedCopy<E>, E: Drop>(view: &mut View<S, E>) -> Result<u32, NoEntry>
     ensures book { view.new.book ≡ view.old.book }
     ensures read { MatchResult result
-        (λ n. (s : Stage E) × (view.new.heard ≡ read_of s ∷ view.old.heard) × (n ≡ length s.entries))
+        (λ n. (s : Stage E) × AllBefore view.old.heard s × (view.new.heard ≡ read_of s ∷ view.old.heard) × (n ≡ length s.entries))
         (λ _. view.new ≡ view.old) }
 {
-    view.read(|read: &S::Value| -> u32
-        ensures { result ≡ length (S.stage read.now).entries }
-    { S::length_of(read) })
+    view.read(
+        |read: &S::Value| -> u32
+            ensures { result ≡ length (S.stage read.now).entries }
+        { S::length_of(read) },
+    )
 }
 
 /// Reads until the list has `n` entries, or as often as there are turns.
@@ -63,5 +65,6 @@ pub fn read_last<S: PublishedCopy<E>, E: Drop>(
     ensures before { IfOk result (λ _. All (λ notice. IsPrefix notice.stage.entries front.stage.entries) view.new.heard) }
 {
     view.learn(front);
-    read_length(view)
+    let length = read_length(view)?;
+    Ok(length)
 }

@@ -101,11 +101,11 @@ pub(crate) fn show<S: PublishedCopy<E>, E: Drop, R: Wait>(
     requires { IsReady S.state writer.desk.shown.value (drop writer.behind writer.log.items) }
     ensures { MatchResult result.1
         (λ _. (S.state result.0.desk.shown.value ≡ content_after S.state writer.desk.shown.value (drop writer.behind writer.log.items))
-            × (drop result.0.behind result.0.log.items ≡ [])
-            × KnowsBook S.state (view result.0.desk.place) (book_of S.state result.0.desk.shown.value))
+        × (drop result.0.behind result.0.log.items ≡ [])
+        × KnowsBook S.state (view result.0.desk.place) (book_of S.state result.0.desk.shown.value))
         (λ _. (result.0.desk.shown.value ≡ writer.desk.shown.value)
-            × (drop result.0.behind result.0.log.items ≡ drop writer.behind writer.log.items)
-            × (view result.0.desk.place ≡ view writer.desk.place)) }
+        × (drop result.0.behind result.0.log.items ≡ drop writer.behind writer.log.items)
+        × (view result.0.desk.place ≡ view writer.desk.place)) }
 {
     let (writer, shown) = writer.publish_as::<Sees<E>, R>(rt);
     match shown {
@@ -195,11 +195,7 @@ impl<S: PublishedCopy<E>, E: Drop> State<S, E> {
         Ok(View::over(reader, &self.mark))
     }
 
-    pub(crate) fn views(
-        &mut self,
-        alloc: Global,
-        count: u32,
-    ) -> Result<Vec<View<S, E>>, AllocError>
+    pub(crate) fn views(&mut self, alloc: Global, count: u32) -> Result<Vec<View<S, E>>, AllocError>
         ensures same { self.new ≡ self.old }
         ensures made { IfOk result (λ all. (vec_len all ≡ count) × All (λ v. v ≡ record { book = self.old.book; heard = [] }) all.items) }
     {
@@ -251,6 +247,7 @@ impl<S: PublishedCopy<E>, E: Drop> State<S, E> {
     {
         Front::at(self.writer.published().mark().again())
     }
+
     pub(crate) fn take<R: Wait>(self, rt: &R) {
         let State {
             writer,

@@ -56,7 +56,7 @@ fn entered<S: PublishedCopy<E>, E: Drop>(
 ) -> Result<Open<S, E>, Place<S, E>>
     ensures { MatchResult result
         (λ r. (view r.place ≡ Some r.part.value) × IsTied S.state r.part.value × (turn ≤ (S.state r.part.value).mark.turn)
-            × ((b : Book) → KnowsBook S.state (view reader.place) b → book_of S.state r.part.value ≡ b))
+        × ((b : Book) → KnowsBook S.state (view reader.place) b → book_of S.state r.part.value ≡ b))
         (λ r. KnowsStill S.state (view reader.place) (view r.place)) }
 {
     match reader.enter_as::<Sees<E>>() {
@@ -85,6 +85,21 @@ fn ask<S: PublishedCopy<E>, E: Drop, T, F: FnOnce(&S::Value) -> T + Drop>(
         }
         Err(reader) => (reader, Err(NoEntry { made: () })),
     }
+}
+
+// The publication at this mark was read.
+fn note_read<E>(known: &mut Mark<E>, heard: &mut Heard<E>, mark: Mark<E>)
+    requires book { mark.seen.book ≡ known.old.seen.book }
+    requires late { known.old.turn ≤ mark.turn }
+    requires before { AllBefore heard.old.kept.log (last_of known.old.seen.log) }
+    ensures known { known.new ≡ mark }
+    ensures heard { heard.new.kept.log ≡ read_of (last_of mark.seen.log) ∷ heard.old.kept.log }
+    ensures on { AllBefore heard.old.kept.log (last_of mark.seen.log) }
+{
+    let mut both = known.seen.again();
+    both.learn(&mark.seen);
+    *heard = heard.read(&mark);
+    *known = mark;
 }
 
 impl<S: PublishedCopy<E>, E: Drop> View<S, E> {
@@ -116,7 +131,7 @@ impl<S: PublishedCopy<E>, E: Drop> View<S, E> {
         ensures book { self.new.book ≡ self.old.book }
         ensures read { MatchResult result
             (λ answer. (p : S.Value) × FnOnceReturnsAt F.FnOnce f p answer × AllBefore self.old.heard (S.stage p)
-                × (self.new.heard ≡ read_of (S.stage p) ∷ self.old.heard))
+            × (self.new.heard ≡ read_of (S.stage p) ∷ self.old.heard))
             (λ _. self.new ≡ self.old) }
     {
         let Some(reader) = self.reader.take() else {
@@ -126,10 +141,7 @@ impl<S: PublishedCopy<E>, E: Drop> View<S, E> {
         self.reader = Some(reader);
         match answer {
             Ok((answer, mark)) => {
-                let mut both = self.known.seen.again();
-                both.learn(&mark.seen);
-                self.heard = self.heard.read(&mark);
-                self.known = mark;
+                note_read(&mut self.known, &mut self.heard, mark);
                 Ok(answer)
             }
             Err(none) => Err(none),

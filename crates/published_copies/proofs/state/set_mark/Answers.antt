@@ -12,7 +12,7 @@ returns-clause-standing g c =
     let now = drop w'.behind w'.log.items in
     let m = standing_marked g.S.Absorb.state c.hand_over.result w.desk.shown.value (drop w.behind w.log.items) now (view w.desk.place) c.args.head.now c.args.mark.now c.in-Some.next c.requires c.in-Some.ensures.own c.in-Some.ensures.added c.hand_over.ensures.pending in
     standing_moved g.S.Absorb.state w.desk.shown.value w'.desk.shown.value now (view w.desk.place) (view w'.desk.place) c.args.head.now c.in-Some.next c.again.result m.0
-        (ap (λ d. d.shown.value) c.hand_over.ensures.desk) (ap (λ d. view d.place) c.hand_over.ensures.desk) c.again.ensures
+    (ap (λ d. d.shown.value) c.hand_over.ensures.desk) (ap (λ d. view d.place) c.hand_over.ensures.desk) c.again.ensures
 
 pub returns-clause-book : goal.returns-clause-book
 returns-clause-book g c = ap (λ m. m.seen.book) c.again.ensures ∙ c.in-Some.ensures.own

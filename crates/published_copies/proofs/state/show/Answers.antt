@@ -24,6 +24,6 @@ returns-in-Ok g c =
     let after : List (Operation g.row.E.Denot) = drop w'.behind w'.log.items in
     let e = c.publish_as-writer.ensures in
     let v = MatchResult-at_ok (λ _. (state w'.desk.shown.value ≡ fold g.S.Absorb.applied (state w.desk.shown.value) pending) × (after ≡ []))
-        (λ _. (w'.desk.shown.value ≡ w.desk.shown.value) × (after ≡ pending)) _ c.in-Ok.is e.values in
+    (λ _. (w'.desk.shown.value ≡ w.desk.shown.value) × (after ≡ pending)) _ c.in-Ok.is e.values in
     let r = MatchResult-at_ok (λ _. Saw state (view w.desk.place) w'.desk.shown.value (view w'.desk.place)) (λ _. view w'.desk.place ≡ view w.desk.place) _ c.in-Ok.is e.rule in
     (v.0 ∙ fold_same g.S.Absorb.applied applied (state w.desk.shown.value) pending g.met.S.PublishedCopy.applies, v.1, (w'.desk.shown.value, r.0, refl))

@@ -13,7 +13,7 @@ returns-then-self-other-clause-this g c =
     let this : IsPrefix mine.seen.log both = subst (λ (l : List (Stage g.row.E.Denot)). IsPrefix l both) (ap (λ s. s.log) c.again-both.ensures) c.learn.ensures.2 in
     let less : length mine.seen.log ≤ length others.seen.log = omega (arith, mine.counted, others.counted) in
     subst (λ (l : List (Stage g.row.E.Denot)). GoesOn (last_of mine.seen.log) (last_of l)) (sym (ap (λ m. m.seen.log) c.again.ensures))
-        (chain_meet mine.seen.log others.seen.log both this c.learn.ensures.3 less c.learn.ensures.4.1.chain)
+    (chain_meet mine.seen.log others.seen.log both this c.learn.ensures.3 less c.learn.ensures.4.1.chain)
 
 pub returns-clause-that : goal.returns-clause-that
 returns-clause-that g c =
@@ -23,4 +23,4 @@ returns-clause-that g c =
     let this : IsPrefix mine.seen.log both = subst (λ (l : List (Stage g.row.E.Denot)). IsPrefix l both) (ap (λ s. s.log) c.again-both.ensures) c.learn.ensures.2 in
     let less : length others.seen.log ≤ length mine.seen.log = omega (arith, mine.counted, others.counted) in
     subst (λ (l : List (Stage g.row.E.Denot)). GoesOn (last_of others.seen.log) (last_of l)) (sym (ap (λ m. m.seen.log) c.again-else-self-other.ensures))
-        (chain_meet others.seen.log mine.seen.log both c.learn.ensures.3 this less c.learn.ensures.4.1.chain)
+    (chain_meet others.seen.log mine.seen.log both c.learn.ensures.3 this less c.learn.ensures.4.1.chain)

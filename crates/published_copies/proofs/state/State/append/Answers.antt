@@ -19,8 +19,8 @@ invariant_of-self g c =
     let shown = ap (λ d. d.shown.value) c.hand_over.ensures.desk in
     let open_yet : (handed state w.desk.shown.value was).ended ≡ false = ap (λ s. s.handed.ended) c.self.view_is ∙ c.requires in
     standing_on state w.desk.shown.value w'.desk.shown.value was now (view w.desk.place) (view w'.desk.place) c.self.inside.head mark c.self.invariant shown (ap (λ d. view d.place) c.hand_over.ensures.desk)
-        (handed_has state (λ (s : Stage g.row.E.Denot). GoesOn (last_of mark.seen.log) s) c.hand_over.result w.desk.shown.value w'.desk.shown.value was now (Added c.args.entry) shown c.hand_over.ensures.pending c.self.invariant.on
-            (goes_entry (last_of mark.seen.log) (handed state w.desk.shown.value was) c.args.entry open_yet c.self.invariant.on))
+    (handed_has state (λ (s : Stage g.row.E.Denot). GoesOn (last_of mark.seen.log) s) c.hand_over.result w.desk.shown.value w'.desk.shown.value was now (Added c.args.entry) shown c.hand_over.ensures.pending c.self.invariant.on
+    (goes_entry (last_of mark.seen.log) (handed state w.desk.shown.value was) c.args.entry open_yet c.self.invariant.on))
 
 pub returns-clause-kept : goal.returns-clause-kept
 returns-clause-kept g c =
@@ -43,4 +43,4 @@ returns-clause-handed g c =
     let w' = c.hand_over.new.writer in
     let before = ap (λ s. s.handed) c.self.view_is in
     handed_becomes state c.hand_over.result w.desk.shown.value w'.desk.shown.value (drop w.behind w.log.items) (drop w'.behind w'.log.items) (Added c.args.entry)
-        c.args.self.now.handed (with_entry c.args.self.now.handed c.args.entry) (ap (λ d. d.shown.value) c.hand_over.ensures.desk) before (ap (λ s. with_entry s c.args.entry) before) c.hand_over.ensures.pending
+    c.args.self.now.handed (with_entry c.args.self.now.handed c.args.entry) (ap (λ d. d.shown.value) c.hand_over.ensures.desk) before (ap (λ s. with_entry s c.args.entry) before) c.hand_over.ensures.pending

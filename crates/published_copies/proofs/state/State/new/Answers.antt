@@ -19,4 +19,4 @@ invariant_of-result g c =
     let pending : List (Operation g.row.E.Denot) = drop w.behind w.log.items in
     let e = c.in-Ok.ensures in
     standing_first g.S.Absorb.state w.desk.shown.value c.over-first.result pending (view w.desk.place) c.first-head.result.0 c.in-Some.mark c.again.result s
-        e.0 c.over-first.ensures c.again.ensures e.1 e.2 (c.first-head.ensures.own ∙ ap head_of (sym c.in-Some.ensures.own)) (ap last_of c.in-Some.ensures.added ∙ last_added c.first-head.result.1.seen.log s)
+    e.0 c.over-first.ensures c.again.ensures e.1 e.2 (c.first-head.ensures.own ∙ ap head_of (sym c.in-Some.ensures.own)) (ap last_of c.in-Some.ensures.added ∙ last_added c.first-head.result.1.seen.log s)

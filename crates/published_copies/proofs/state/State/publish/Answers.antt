@@ -12,7 +12,7 @@ invariant_of-result g c =
     let pending : List (Operation g.row.E.Denot) = drop w.behind w.log.items in
     let after : List (Operation g.row.E.Denot) = drop w'.behind w'.log.items in
     shown_standing g.S.Absorb.state c.show-writer.result.1 w.desk.shown.value w'.desk.shown.value pending after (view w.desk.place) (view w'.desk.place) c.self.inside.head c.set_mark.new.mark
-        c.show-writer.ensures c.in-Ok.ensures.ready c.set_mark.ensures.standing
+    c.show-writer.ensures c.in-Ok.ensures.ready c.set_mark.ensures.standing
 
 pub returns-in-Ok-clause-kept : goal.returns-in-Ok-clause-kept
 returns-in-Ok-clause-kept g c =
@@ -33,4 +33,4 @@ returns-in-Ok-clause-published g c =
     let pending : List (Operation g.row.E.Denot) = drop w.behind w.log.items in
     let after : List (Operation g.row.E.Denot) = drop w'.behind w'.log.items in
     shown_published state c.show-writer.result.1 w.desk.shown.value w'.desk.shown.value pending after (view w.desk.place) (view w'.desk.place) c.args.self.published c.args.self.handed c.show-writer.ensures c.in-Ok.ensures.ready
-        (ap (λ d. last_of (state d.shown.value).mark.seen.log) c.set_mark.ensures.desk ∙ ap (λ s. s.published) c.self.view_is) (c.set_mark.ensures.handed ∙ ap (λ s. s.handed) c.self.view_is)
+    (ap (λ d. last_of (state d.shown.value).mark.seen.log) c.set_mark.ensures.desk ∙ ap (λ s. s.published) c.self.view_is) (c.set_mark.ensures.handed ∙ ap (λ s. s.handed) c.self.view_is)
