@@ -1,7 +1,6 @@
 -- What fronts, views and publishers are seen as.
-use Rattle.std.specs.Prelude.{◌≡◌, ℕ, ◌≤◌, Bool, not, false, List, [], ◌∷◌, ◌++◌, length, fold, Option, Some, None, All}
+use Rattle.std.specs.Prelude.{◌≡◌, ℕ, ◌≤◌, Bool, not, false, List, ◌∷◌, ◌++◌, length, fold, Option, Some, None, All}
 use Rattle.std.specs.List.{count_by}
-use mathlib.Core.List.{IsPrefix}
 use Rattle.logbook.specs.Pages.{Book, Named}
 use Rattle.published_copies.specs.declared.stage.Stage.{Stage}
 use Rattle.published_copies.specs.declared.stage.Notice.{Notice}

@@ -1,4 +1,4 @@
-use Rattle.std.proofs.Common.{◌≡◌, true, List, ◌∷◌, sym, ap, ◌∙◌, subst, length}
+use Rattle.std.proofs.Common.{true, List, sym, ap, ◌∙◌, subst, length}
 use Rattle.std.specs.Prelude.{slice_index_or}
 use mathlib.Core.List.{IsPrefix}
 use Rattle.published_copies.specs.declared.stage.Stage.{Stage}

@@ -1,4 +1,4 @@
-use Rattle.std.proofs.Common.{List, [], drop, sym, ap, ◌∙◌, subst}
+use Rattle.std.proofs.Common.{List, drop, sym, ap, ◌∙◌, subst}
 use Rattle.left_right.specs.Sides.{view}
 use Rattle.published_copies.specs.declared.stage.Stage.{Stage}
 use Rattle.published_copies.specs.declared.copies.Operation.{Operation}
