@@ -1,5 +1,5 @@
 //! What views read of what was published.
-
+ghost use Rattle.std.specs.Prelude.{◌≡◌, ◌∷◌, [], false, IfOk};
 
 use crate::scale::{Scale, Shown, Weight};
 use published_copies::{Awaited, Publisher, View, await_length, read_last};
@@ -12,10 +12,14 @@ type Pressed = Publisher<Shown, Weight>;
 
 type Sight = View<Shown, Weight>;
 
-/// Such a length no list has here: the view was given no entry.
+/// No list here is so long: the view was given no entry.
 const NONE: u32 = u32::MAX;
 
-fn length(view: &mut Sight) -> u32 {
+const PUBLICATIONS: u32 = 10_000;
+
+fn length(view: &mut Sight) -> u32
+    ensures { view.new.book ≡ view.old.book }
+{
     match view.read(|scale: &Scale| scale.entries.len() as u32) {
         Ok(length) => length,
         Err(_) => NONE,
@@ -23,18 +27,105 @@ fn length(view: &mut Sight) -> u32 {
 }
 
 /// The length and the weight, read at once.
-fn weighed(view: &mut Sight) -> (u32, u64) {
+fn weighed(view: &mut Sight) -> (u32, u64)
+    ensures { view.new.book ≡ view.old.book }
+{
     match view.read(|scale: &Scale| (scale.entries.len() as u32, scale.total)) {
         Ok(both) => both,
         Err(_) => (NONE, 0),
     }
 }
 
+fn one(alloc: Global, entry: Weight) -> Result<Scale, AllocError>
+    ensures { IfOk result (λ s. (s.entries.items ≡ entry ∷ []) × (s.ended ≡ false)) }
+{
+    let mut scale = Scale::new(alloc);
+    match scale.accept(entry) {
+        Ok(()) => Ok(scale),
+        Err(refused) => Err(refused),
+    }
+}
+
+// Publishes an entry each time.
+fn publish_all<R: Wait>(rt: &R, alloc: Global, publisher: &mut Pressed, count: u32) -> u32
+    requires { publisher.old.handed.ended ≡ false }
+    ensures { (publisher.new.book ≡ publisher.old.book) × (publisher.new.handed.ended ≡ false) }
+{
+    let mut done = 0;
+    for weight in 0..count {
+        if publisher.append(alloc, &Weight(weight)).is_err() {
+            return done;
+        }
+        if publisher.publish(rt).is_err() {
+            return done;
+        }
+        done = weight + 1;
+    }
+    done
+}
+
+// Whether each length was as great as the one before.
+fn read_all(view: &mut Sight, count: u32) -> bool
+    ensures { view.new.book ≡ view.old.book }
+{
+    let mut last = 0;
+    for _ in 0..count {
+        let now = length(view);
+        if now == NONE || now < last {
+            return false;
+        }
+        last = now;
+    }
+    true
+}
+
+// Publishes in one thread and reads in another.
+fn publish_beside<R: Threads + Wait + Sync>(
+    rt: &R,
+    alloc: Global,
+    publisher: &mut Pressed,
+    view: &mut Sight,
+) -> (u32, bool)
+    requires { publisher.old.handed.ended ≡ false }
+    ensures publisher { (publisher.new.book ≡ publisher.old.book) × (publisher.new.handed.ended ≡ false) }
+    ensures view { view.new.book ≡ view.old.book }
+{
+    join_mut(
+        rt,
+        &mut || -> u32
+            requires { publisher.now.handed.ended ≡ false }
+            ensures { (publisher.exit.now.book ≡ publisher.entry.now.book) × (publisher.exit.now.handed.ended ≡ false) }
+        { publish_all(rt, alloc, publisher, PUBLICATIONS) },
+        &mut || -> bool
+            ensures { view.exit.now.book ≡ view.entry.now.book }
+        { read_all(view, PUBLICATIONS) },
+    )
+}
+
+// Publishes the end, and reads all of it.
+fn finish<R: Wait>(rt: &R, publisher: &mut Pressed, view: &mut Sight) -> Option<u32>
+    requires open { publisher.old.handed.ended ≡ false }
+    requires own { view.old.book ≡ publisher.old.book }
+{
+    let Ok(()) = publisher.append_end() else {
+        return None;
+    };
+    let Ok(()) = publisher.publish(rt) else {
+        return None;
+    };
+    read_last(view, publisher.tell()).ok()
+}
 
 #[test]
 fn what_is_appended_is_read_once_it_is_published(rt: HostRuntime) -> Result<(), Fail> {
     let alloc = rt.alloc();
-    let (mut publisher, mut views) = Pressed::new(&rt, alloc, Scale::new(alloc), Scale::new(alloc), 2)?;
+    let (mut publisher, mut views) = Pressed::new(
+        &rt,
+        alloc,
+        Scale::new(alloc),
+        Scale::new(alloc),
+        2,
+    )?;
     let appended = publisher.append(alloc, &Weight(7)).is_ok();
     let before = (length(&mut views[0]), length(&mut views[1]));
     let published = publisher.publish(&rt).is_ok();
@@ -47,35 +138,54 @@ fn what_is_appended_is_read_once_it_is_published(rt: HostRuntime) -> Result<(), 
 }
 
 #[test]
-fn both_copies_have_every_entry(rt: HostRuntime) -> Result<(), Fail> {
+fn a_publisher_begins_with_entries(rt: HostRuntime) -> Result<(), Fail> {
     let alloc = rt.alloc();
-    let (mut publisher, mut views) = Pressed::new(&rt, alloc, Scale::new(alloc), Scale::new(alloc), 1)?;
-    let mut done = 0;
-    let mut last = (0, 0);
-    for _ in 0..4 {
-        let Ok(()) = publisher.append(alloc, &Weight(10)) else {
-            break;
-        };
-        let Ok(()) = publisher.publish(&rt) else {
-            break;
-        };
-        views[0].learn(publisher.tell());
-        last = weighed(&mut views[0]);
-        done += 1;
-    }
+    let first = one(alloc, Weight(5))?;
+    let second = one(alloc, Weight(5))?;
+    let (mut publisher, mut views) = Pressed::new(&rt, alloc, first, second, 1)?;
+    let begun = weighed(&mut views[0]);
+    let done = publish_all(&rt, alloc, &mut publisher, 4);
+    views[0].learn(publisher.tell());
+    let after = weighed(&mut views[0]);
     publisher.take(&rt);
-    assert_eq!(rt; (done, last), (4, (4, 40)));
+    assert_eq!(rt; (begun, done, after), ((1, 5), 4, (5, 11)));
     Ok(())
 }
 
 #[test]
 fn waiting_for_a_length_ends_after_its_turns(rt: HostRuntime) -> Result<(), Fail> {
     let alloc = rt.alloc();
-    let (publisher, mut views) = Pressed::new(&rt, alloc, Scale::new(alloc), Scale::new(alloc), 1)?;
+    let (publisher, mut views) = Pressed::new(
+        &rt,
+        alloc,
+        Scale::new(alloc),
+        Scale::new(alloc),
+        1,
+    )?;
     let reached = await_length(&mut views[0], 0, 1).ok();
     let late = await_length(&mut views[0], 1, 5).ok();
     publisher.take(&rt);
     assert_eq!(rt; reached, Some(Awaited::Reached { now: 0 }));
     assert_eq!(rt; late, Some(Awaited::NotYet { now: 0 }));
+    Ok(())
+}
+
+#[test]
+fn a_view_reads_through_many_publications(rt: HostRuntime) -> Result<(), Fail> {
+    let alloc = rt.alloc();
+    let (mut publisher, mut views) = Pressed::new(
+        &rt,
+        alloc,
+        Scale::new(alloc),
+        Scale::new(alloc),
+        1,
+    )?;
+    let Some(mut view) = views.pop() else {
+        unreachable!()
+    };
+    let (done, grew) = publish_beside(&rt, alloc, &mut publisher, &mut view);
+    let all = finish(&rt, &mut publisher, &mut view);
+    publisher.take(&rt);
+    assert_eq!(rt; (done, grew, all), (PUBLICATIONS, true, Some(PUBLICATIONS)));
     Ok(())
 }
