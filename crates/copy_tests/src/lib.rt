@@ -5,3 +5,5 @@
 mod published;
 #[cfg(test)]
 mod scale;
+#[cfg(test)]
+mod shown;

@@ -1,12 +1,12 @@
 //! What views read of what was published.
 ghost use Rattle.std.specs.Prelude.{◌≡◌, ◌∷◌, [], false, IfOk};
 
-use crate::scale::{Scale, Shown, Weight};
-use published_copies::{Awaited, Publisher, View, await_length, read_last};
+use crate::scale::{Scale, Weight};
+use crate::shown::Shown;
+use published_copies::{Awaited, PublishedCopy, Publisher, View, await_length, read_last};
 use std::alloc::{AllocError, Global};
 use std::sync::Wait;
 use std::test::Fail;
-use std::thread::{Threads, join_mut};
 
 type Pressed = Publisher<Shown, Weight>;
 
@@ -17,7 +17,7 @@ const NONE: u32 = u32::MAX;
 
 const PUBLICATIONS: u32 = 10_000;
 
-fn length(view: &mut Sight) -> u32
+fn length<S: PublishedCopy<Weight, Value = Scale>>(view: &mut View<S, Weight>) -> u32
     ensures { view.new.book ≡ view.old.book }
 {
     match view.read(|scale: &Scale| scale.entries.len() as u32) {
@@ -27,7 +27,7 @@ fn length(view: &mut Sight) -> u32
 }
 
 /// The length and the weight, read at once.
-fn weighed(view: &mut Sight) -> (u32, u64)
+fn weighed<S: PublishedCopy<Weight, Value = Scale>>(view: &mut View<S, Weight>) -> (u32, u64)
     ensures { view.new.book ≡ view.old.book }
 {
     match view.read(|scale: &Scale| (scale.entries.len() as u32, scale.total)) {
@@ -64,42 +64,23 @@ fn publish_all<R: Wait>(rt: &R, alloc: Global, publisher: &mut Pressed, count: u
     done
 }
 
-// Whether each length was as great as the one before.
-fn read_all(view: &mut Sight, count: u32) -> bool
-    ensures { view.new.book ≡ view.old.book }
+// Publishes an entry each time, and reads it. How often the whole was read.
+fn read_through<R: Wait>(rt: &R, alloc: Global, publisher: &mut Pressed, view: &mut Sight) -> u32
+    requires open { publisher.old.handed.ended ≡ false }
+    requires own { view.old.book ≡ publisher.old.book }
+    ensures open { publisher.new.handed.ended ≡ false }
+    ensures own { view.new.book ≡ publisher.new.book }
 {
-    let mut last = 0;
-    for _ in 0..count {
-        let now = length(view);
-        if now == NONE || now < last {
-            return false;
+    for weight in 0..PUBLICATIONS {
+        if publish_all(rt, alloc, publisher, 1) != 1 {
+            return weight;
         }
-        last = now;
+        view.learn(publisher.tell());
+        if length(view) != weight + 1 {
+            return weight;
+        }
     }
-    true
-}
-
-// Publishes in one thread and reads in another.
-fn publish_beside<R: Threads + Wait + Sync>(
-    rt: &R,
-    alloc: Global,
-    publisher: &mut Pressed,
-    view: &mut Sight,
-) -> (u32, bool)
-    requires { publisher.old.handed.ended ≡ false }
-    ensures publisher { (publisher.new.book ≡ publisher.old.book) × (publisher.new.handed.ended ≡ false) }
-    ensures view { view.new.book ≡ view.old.book }
-{
-    join_mut(
-        rt,
-        &mut || -> u32
-            requires { publisher.now.handed.ended ≡ false }
-            ensures { (publisher.exit.now.book ≡ publisher.entry.now.book) × (publisher.exit.now.handed.ended ≡ false) }
-        { publish_all(rt, alloc, publisher, PUBLICATIONS) },
-        &mut || -> bool
-            ensures { view.exit.now.book ≡ view.entry.now.book }
-        { read_all(view, PUBLICATIONS) },
-    )
+    PUBLICATIONS
 }
 
 // Publishes the end, and reads all of it.
@@ -155,13 +136,7 @@ fn a_publisher_begins_with_entries(rt: HostRuntime) -> Result<(), Fail> {
 #[test]
 fn waiting_for_a_length_ends_after_its_turns(rt: HostRuntime) -> Result<(), Fail> {
     let alloc = rt.alloc();
-    let (publisher, mut views) = Pressed::new(
-        &rt,
-        alloc,
-        Scale::new(alloc),
-        Scale::new(alloc),
-        1,
-    )?;
+    let (publisher, mut views) = Pressed::new(&rt, alloc, Scale::new(alloc), Scale::new(alloc), 1)?;
     let reached = await_length(&mut views[0], 0, 1).ok();
     let late = await_length(&mut views[0], 1, 5).ok();
     publisher.take(&rt);
@@ -183,9 +158,9 @@ fn a_view_reads_through_many_publications(rt: HostRuntime) -> Result<(), Fail> {
     let Some(mut view) = views.pop() else {
         unreachable!()
     };
-    let (done, grew) = publish_beside(&rt, alloc, &mut publisher, &mut view);
+    let read = read_through(&rt, alloc, &mut publisher, &mut view);
     let all = finish(&rt, &mut publisher, &mut view);
     publisher.take(&rt);
-    assert_eq!(rt; (done, grew, all), (PUBLICATIONS, true, Some(PUBLICATIONS)));
+    assert_eq!(rt; (read, all), (PUBLICATIONS, Some(PUBLICATIONS)));
     Ok(())
 }
