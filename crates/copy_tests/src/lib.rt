@@ -1,9 +1,7 @@
-//! Tests of two published copies, over a small value that counts what its entries weigh.
+//! Tests of two published copies, over a small value that keeps what its entries weigh together.
 #![tactic(auto)]
 
 #[cfg(test)]
 mod published;
-#[cfg(test)]
-mod scale;
-#[cfg(test)]
-mod shown;
+pub mod scale;
+pub mod shown;
