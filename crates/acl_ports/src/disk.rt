@@ -1,5 +1,5 @@
 // A file of bytes that are read and written at places.
-ghost use Rattle.std.specs.Prelude.{◌≡◌, ◌<◌, ◌≤◌, List, ℕ, Option, Some, length, IfOk, OnOk, OnErr, IfSome, IsSomeAnd};
+ghost use Rattle.std.specs.Prelude.{◌≡◌, ◌<◌, ◌≤◌, List, ℕ, Option, None, Some, length, IfNone, IfOk, OnOk, OnErr, IfSome, IsSomeAnd};
 ghost use Rattle.std.specs.Option.{ForSome};
 ghost use Rattle.acl_ports.specs.Crash.{BecomesDirty, BecomesSynced, Elapses, Pending, StaysPending};
 ghost use Rattle.acl_ports.specs.Disk.{HasChangedIn, HasChangedWithin, IsReadAt, Stays, content_after_write};
@@ -12,7 +12,7 @@ use crate::Failed;
 /// A crash may come at any moment, within a call too: what it may leave then is what it may leave before the call or
 /// after it.
 pub trait Disk {
-    /// The bytes that a read gives, where they are known: told over memory only.
+    /// The bytes that a read gives, where they are known: told over memory only. What is not known stays so.
     ghost content: { Self → Option (List ℕ) };
 
     /// How many calls were made. It stays at its last value.
@@ -29,6 +29,7 @@ pub trait Disk {
         ensures length { IfOk result (λ count.
             IfSome (content self.old) (λ held. count ≡ length held)) }
         ensures kept { Stays (content self.old) (content self.new) }
+        ensures untold { IfNone (content self.old) (content self.new ≡ None) }
         ensures time { Elapses (moment self.old) (moment self.new) (pending self.old) (pending self.new) StaysPending }
         ensures cause { HasCause (faults self.old) (faults self.new) result };
 
@@ -41,6 +42,7 @@ pub trait Disk {
         ensures progress { IfOk result (λ count. IfSome (content self.old) (λ held.
             at < length held → 0 < length into.new → 0 < count)) }
         ensures kept { Stays (content self.old) (content self.new) }
+        ensures untold { IfNone (content self.old) (content self.new ≡ None) }
         ensures time { Elapses (moment self.old) (moment self.new) (pending self.old) (pending self.new) StaysPending }
         ensures cause { HasCause (faults self.old) (faults self.new) result };
 
@@ -52,6 +54,7 @@ pub trait Disk {
             content self.new ≡ Some (content_after_write held at bytes.now))) }
         ensures torn { OnErr result (IfSome (content self.old) (λ held.
             IsSomeAnd (content self.new) (HasChangedWithin at (length bytes.now) held))) }
+        ensures untold { IfNone (content self.old) (content self.new ≡ None) }
         ensures time { Elapses (moment self.old) (moment self.new) (pending self.old) (pending self.new)
             (BecomesDirty at (length bytes.now) result) }
         ensures cause { HasCause (faults self.old) (faults self.new) result };
@@ -67,6 +70,7 @@ pub trait Disk {
         ensures torn { OnErr result (IfSome (content self.old) (λ held.
             IfSome (pending self.old (moment self.old)) (λ known.
             IsSomeAnd (content self.new) (HasChangedIn known.dirty held)))) }
+        ensures untold { IfNone (content self.old) (content self.new ≡ None) }
         ensures time { Elapses (moment self.old) (moment self.new) (pending self.old) (pending self.new)
             (BecomesSynced (content self.old) result) }
         ensures cause { HasCause (faults self.old) (faults self.new) result };

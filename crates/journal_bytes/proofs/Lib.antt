@@ -1,0 +1,4 @@
+pub mod Histories
+pub mod Sizes
+pub mod Fronts
+pub mod Standing
