@@ -3,6 +3,7 @@ pub mod Basis
 pub mod Counting
 pub mod Counts
 pub mod Entries
+pub mod Fewer
 pub mod Levels
 pub mod Limits
 pub mod SomeBits

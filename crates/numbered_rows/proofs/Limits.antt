@@ -162,18 +162,21 @@ module _ (tables : Tables) (once : HasEachOnce same_auth tables.accounts.names) 
         any_mapped pair_of (same_pair pair) schemas
         ∙ list_any_at (λ x. same_pair pair (pair_of x)) schemas entry.0 d entry.1 (and_from (same_auth pair.0 (naming e.holder)) (text_eq pair.1 e.thing) named both.1)
 
-    pairs_listed : ListsEachOnce same_pair (IsPairInUse (state_of tables)) (map pair_of schemas)
+    pub pairs_listed : ListsEachOnce same_pair (IsPairInUse (state_of tables)) (map pair_of schemas)
     pairs_listed = record {
       once = keys_once text_eq names once schemas sound text_eq_itself holder_stands same_pair (λ a s. (a, s)) pair_parts;
       just_these = λ pair. (pair_listed pair, listed_pair pair);
     }
 
-    equal_pair : (one other : AuthId × List ℕ) → same_pair one other ≡ true → one ≡ other
+    pub equal_pair : (one other : AuthId × List ℕ) → same_pair one other ≡ true → one ≡ other
     equal_pair one other same = let both = pair_parts one.0 other.0 one.1 other.1 same in ap (λ a. (a, one.1)) both.0 ∙ ap (λ s. (other.0, s)) both.1
+
+    pub pair_itself : (pair : AuthId × List ℕ) → same_pair pair pair ≡ true
+    pair_itself pair = and_from (same_auth pair.0 pair.0) (text_eq pair.1 pair.1) (same_auth_itself pair.0) (text_eq_itself pair.1)
 
     pub over_pairs : (limit n : ℕ) → n ≡ length schemas → MatchBool (nat_lt limit n) (HasMoreThan same_pair (IsPairInUse (state_of tables)) limit) (HasMoreThan same_pair (IsPairInUse (state_of tables)) limit → ⊥)
     over_pairs limit n is =
-        is_over_limit same_pair equal_pair (λ pair. and_from (same_auth pair.0 pair.0) (text_eq pair.1 pair.1) (same_auth_itself pair.0) (text_eq_itself pair.1))
+        is_over_limit same_pair equal_pair pair_itself
         (IsPairInUse (state_of tables)) (map pair_of schemas) pairs_listed limit (nat_lt limit n) (ap (nat_lt limit) (length-map schemas pair_of ∙ sym is))
 
     -- each schema once
@@ -194,10 +197,13 @@ module _ (tables : Tables) (once : HasEachOnce same_auth tables.accounts.names) 
         any_things text_eq equal_from_text_eq text_eq_itself schemas s
         ∙ list_any_at (is_on text_eq s) schemas entry.0 d entry.1 (and_parts (found.0 == e.holder) (text_eq s e.thing) (entry.2 d)).1
 
+    pub schemas_listed : ListsEachOnce text_eq (IsSchemaInUse (state_of tables)) (things_in text_eq equal_from_text_eq text_eq_itself schemas)
+    schemas_listed = record { once = things_once text_eq equal_from_text_eq text_eq_itself schemas; just_these = λ s. (schema_listed s, listed_schema s) }
+
     pub over_schemas : (limit n : ℕ) → n ≡ thing_count text_eq schemas → MatchBool (nat_lt limit n) (HasMoreThan text_eq (IsSchemaInUse (state_of tables)) limit) (HasMoreThan text_eq (IsSchemaInUse (state_of tables)) limit → ⊥)
     over_schemas limit n is =
         is_over_limit text_eq equal_from_text_eq text_eq_itself (IsSchemaInUse (state_of tables)) (things_in text_eq equal_from_text_eq text_eq_itself schemas)
-        (record { once = things_once text_eq equal_from_text_eq text_eq_itself schemas; just_these = λ s. (schema_listed s, listed_schema s) })
+        schemas_listed
         limit (nat_lt limit n) (ap (nat_lt limit) (things_length text_eq equal_from_text_eq text_eq_itself schemas ∙ sym is))
 
   -- ---- objects
@@ -279,10 +285,13 @@ module _ (tables : Tables) (once : HasEachOnce same_auth tables.accounts.names) 
     listed_object (Procedure a s f q) used = ap (λ n. list_any (same_row (Procedure a s f n)) (map object_key objects)) used.0 ∙ found_object a (object.Procedure s f) used.1.0 used.1.1
     listed_object _ used = absurd used
 
+    pub objects_listed : ListsEachOnce same_row (IsObjectInUse (state_of tables)) (map object_key objects)
+    objects_listed = record { once = keys_once same_object names once objects sound same_object_itself object_holder same_row (λ a o. object_row a o 0) object_parts; just_these = λ row. (object_listed row, listed_object row) }
+
     pub over_objects : (limit n : ℕ) → n ≡ length objects → MatchBool (nat_lt limit n) (HasMoreThan same_row (IsObjectInUse (state_of tables)) limit) (HasMoreThan same_row (IsObjectInUse (state_of tables)) limit → ⊥)
     over_objects limit n is =
         is_over_limit same_row equal_from_same_row same_row_itself (IsObjectInUse (state_of tables)) (map object_key objects)
-        (record { once = keys_once same_object names once objects sound same_object_itself object_holder same_row (λ a o. object_row a o 0) object_parts; just_these = λ row. (object_listed row, listed_object row) })
+        objects_listed
         limit (nat_lt limit n) (ap (nat_lt limit) (length-map objects object_key ∙ sym is))
 
   -- ---- edges
@@ -427,12 +436,15 @@ module _ (tables : Tables) (once : HasEachOnce same_auth tables.accounts.names) 
         (list_any_at (λ e. same_row (Default of role) (default_key e)) defaults entry.0 d entry.1 (same_row_from_equal (Default of role) (default_key e) equal))
     listed_edge _ used = absurd used
 
+    pub edges_listed : ListsEachOnce same_row (IsEdgeInUse (state_of tables)) edge_rows
+    edges_listed = record {
+      once = differ_appended same_row (map link_key links) (map default_key defaults) (differ_mapped link_key same_row links links_apart) (differ_mapped default_key same_row defaults defaults_apart) no_default same_row_itself;
+      just_these = λ row. (edge_listed row, listed_edge row);
+    }
+
     pub over_edges : (limit n : ℕ) → n ≡ length links + length defaults → MatchBool (nat_lt limit n) (HasMoreThan same_row (IsEdgeInUse (state_of tables)) limit) (HasMoreThan same_row (IsEdgeInUse (state_of tables)) limit → ⊥)
     over_edges limit n is =
         let counted : length edge_rows ≡ n = omega (arith, length-append (map link_key links) (map default_key defaults), length-map links link_key, length-map defaults default_key, is) in
         is_over_limit same_row equal_from_same_row same_row_itself (IsEdgeInUse (state_of tables)) edge_rows
-        (record {
-          once = differ_appended same_row (map link_key links) (map default_key defaults) (differ_mapped link_key same_row links links_apart) (differ_mapped default_key same_row defaults defaults_apart) no_default same_row_itself;
-          just_these = λ row. (edge_listed row, listed_edge row);
-        })
+        edges_listed
         limit (nat_lt limit n) (ap (nat_lt limit) counted)

@@ -1,2 +1,4 @@
 pub mod Back
 pub mod Comes
+pub mod Limiting
+pub mod Trials

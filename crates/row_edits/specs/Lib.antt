@@ -1,1 +1,4 @@
+pub mod Causes
+pub mod Edits
 pub mod Layers
+pub mod Parts

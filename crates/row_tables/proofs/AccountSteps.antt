@@ -1,7 +1,7 @@
 -- Accounts that come, go, are renamed and get other data.
 use Rattle.std.proofs.Common.{◌≡◌, ◌∙◌, refl, sym, ap, subst, ℕ, zero, suc, ◌<◌, ◌≤◌, ◌+◌, Bool, true, false, cond, not, ◌&&◌, ◌||◌, List, [], ◌∷◌, length, max, count_by, Option, None, Some, is_some, IsSome, IsTrue, MatchBool, if◌then◌else◌, inl, inr, arith}
 use Rattle.std.specs.Option.{option_map}
-use Rattle.std.proofs.lemmas.Bool.{cases_lt, true≢false, lt-ltb}
+use Rattle.std.proofs.lemmas.Bool.{cases_lt, eq-eqb, true≢false, lt-ltb}
 use Rattle.std.proofs.lemmas.List.Sums.{sum_by-cons}
 use Rattle.std.proofs.Math.Bool.{and-true, or-false}
 use Rattle.account_holdings.specs.Holdings.{HoldAlike}
@@ -22,7 +22,7 @@ use Rattle.numbered_rows.proofs.Basis.{basis_alike}
 use Rattle.numbered_rows.proofs.Levels.{levels_alike}
 use Rattle.numbered_rows.proofs.Counts.{over_accounts}
 use Rattle.numbered_rows.proofs.Matching.{or_last}
-use Rattle.numbered_rows.proofs.Numbers.{Names, named_at, number_none, once_added, once_removed, once_renamed}
+use Rattle.numbered_rows.proofs.Numbers.{Names, named_at, number_is, number_none, once_added, once_removed, once_renamed}
 use Rattle.numbered_rows.proofs.Standing.{unused_from_unnamed, well_alike, well_named, well_removed}
 use Rattle.numbered_rows.proofs.States.{same_state}
 use Rattle.numbered_rows.specs.Conditions.{HasRoom, IsUnnamed}
@@ -151,6 +151,17 @@ module _ (old now : Tables) (seen : old ≡ now) (sound : AreSound old) where
     added_state known roles active =
         came_state old new sound a number (absent_new old.accounts.names a found is none) free only alike known roles active
         ∙ ap (λ t. with_row (Account a) (state_of t)) seen
+
+    -- the account has its number
+    pub added_number : number_of new.accounts.names a ≡ Some number
+    added_number =
+        number_is new.accounts.names (once_added old.accounts.names new.accounts.names number a free (absent_new old.accounts.names a found is none) only sound.once) a number
+        (only number ∙ ap (λ t. cond t (Some a) (name_at old.accounts.names number)) (eq-eqb number number refl))
+
+  -- what is not found does not stand
+  pub found_not : (a : AuthId) (found : Option ℕ) → found ≡ number_of now.accounts.names a → found ≡ None → stands (state_of now) a ≡ false
+  unfolding state_of
+  found_not a found is none = ap is_some (sym is ∙ none)
 
   -- ---- an account goes
 

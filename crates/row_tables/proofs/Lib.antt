@@ -2,6 +2,7 @@ pub mod AccountSteps
 pub mod Alike
 pub mod Beside
 pub mod Coming
+pub mod FewerRows
 pub mod Going
 pub mod HeldRows
 pub mod Listed

@@ -1,6 +1,7 @@
 //! Rows that come and go, accounts that are renamed, and room for more.
-ghost use Rattle.std.specs.Prelude.{◌≡◌, ◌<◌, ◌≤◌, ◌+◌, IsTrue, MatchResult, OnOk, false, length, max, vec_capacity, vec_len};
+ghost use Rattle.std.specs.Prelude.{◌≡◌, ◌<◌, ◌≤◌, ◌+◌, IsTrue, MatchResult, OnOk, false, length, max, vec_capacity, vec_len, Some};
 ghost use Rattle.acl_model.specs.State.{stands};
+ghost use Rattle.numbered_rows.specs.Numbering.{number_of as number_in};
 ghost use Rattle.acl_model.specs.declared.row.Row.TheVariants.{Account as AccountRow};
 ghost use Rattle.row_tables.specs.Changes.{renamed, with_data, with_row, without_row};
 ghost use Rattle.row_tables.specs.Conditions.{HasRoom, IsFreeToGo, IsReadyFor, IsUnnamed, has_its_level, is_account, names_stand};
@@ -36,23 +37,40 @@ impl Rows {
         ensures room { LosesAtMost 1 (room_of self.old) (room_of self.new) }
     {
         match account_of(row) {
-            Ok(account) => self.add_account(account),
+            Ok(account) => {
+                self.add_account(account);
+            }
             Err(other) => self.add_held(other),
         }
     }
 
-    fn add_account(&mut self, account: AuthId)
-        requires ready { HasRoom (state_of self.old) }
+    // The account and its number, which it has already where it stands.
+    fn add_account(&mut self, account: AuthId) -> u32
+        requires ready { stands (state_of self.old) account ≡ false → HasRoom (state_of self.old) }
         requires room { 0 < (room_of self.old).accounts }
+        ensures number { number_in self.new.accounts.names account ≡ Some result }
+        ensures known { result < length self.new.account_data }
         ensures state { state_of self.new ≡ with_row (AccountRow account) (state_of self.old) }
         ensures room { LosesAtMost 1 (room_of self.old) (room_of self.new) }
     {
-        if self.number(&account).is_some() {
-            return;
+        if let Some(number) = self.number(&account) {
+            return number;
         }
         let number = self.accounts.add(account);
         set_known(&mut self.account_data, number, new_account());
         self.holdings.add_account(number);
+        number
+    }
+
+    /// Makes the account stand with these data, whether it stood or not. It takes no memory.
+    pub fn put_account(&mut self, account: AuthId, value: AccountData)
+        requires ready { stands (state_of self.old) account ≡ false → HasRoom (state_of self.old) }
+        requires room { 0 < (room_of self.old).accounts }
+        ensures state { state_of self.new ≡ with_data account value (with_row (AccountRow account) (state_of self.old)) }
+        ensures room { LosesAtMost 1 (room_of self.old) (room_of self.new) }
+    {
+        let number = self.add_account(account);
+        change_known(&mut self.account_data, number, value);
     }
 
     fn add_held(&mut self, row: Row)

@@ -2,7 +2,9 @@
 ghost use Rattle.std.specs.Prelude.{◌≡◌, ◌≤◌, ◌+◌, IfOk, IsTrue, OnOk, length, nat_lt};
 ghost use Rattle.std.specs.Bool.{MatchBool};
 ghost use Rattle.acl_model.specs.Counts.{HasMoreThan, IsExceeded};
-ghost use Rattle.acl_model.specs.State.{stands};
+ghost use Rattle.acl_model.specs.State.{State, stands};
+ghost use Rattle.acl_model.specs.declared.row.Row.{Row as RowValue};
+ghost use Rattle.acl_stmt.specs.declared.refusal.Full.{Full as FullOf};
 ghost use Rattle.acl_names.specs.AuthId.{same_auth};
 ghost use Rattle.row_tables.specs.Conditions.{HasRoom};
 ghost use Rattle.row_tables.specs.Rooms.{HasRoomFor, LosesAtMost, room_of};
@@ -31,6 +33,18 @@ impl Rows {
             Full::Objects => self.holdings.objects().len() > 65_536,
             Full::Edges => self.has_more_edges(65_536),
         }
+    }
+
+    /// The law that no limit is exceeded with fewer rows that is not exceeded with all. It does nothing when it runs.
+    pub fn fewer_rows_exceed_no_more(&self)
+        ensures { (fewer : State) (what : FullOf) →
+            ((row : RowValue) → IsTrue (fewer.rows row) → IsTrue ((state_of self.now).rows row)) →
+            IsExceeded fewer what → IsExceeded (state_of self.now) what }
+    {
+        self.holdings.schemas().is_sound();
+        self.holdings.objects().is_sound();
+        self.holdings.defaults().is_sound();
+        self.holdings.roles().lists_each_edge_once();
     }
 
     // Whether more roles are granted or are default roles.

@@ -55,12 +55,14 @@ impl Rows {
     {
         let _ = &self.holdings;
     }
+
     /// The law that each row's privilege has the level of the row. It does nothing when it runs.
     pub fn rows_have_levels(&self)
         ensures { (row : RowValue) → IsTrue ((state_of self.now).rows row) → IsTrue (has_its_level row) }
     {
         let _ = &self.holdings;
     }
+
     /// The law that the accounts that a row names stand. It does nothing when it runs.
     pub fn rows_name_accounts(&self)
         ensures { (row : RowValue) → IsTrue ((state_of self.now).rows row) → IsTrue (names_stand (state_of self.now) row) }
