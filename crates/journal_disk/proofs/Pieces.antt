@@ -66,12 +66,12 @@ pub read_more : (held into next : List ℕ) (at done count : ℕ) → done ≤ l
 read_more held into next at done count within first second = (
   omega (arith, length-drop at held, length-drop (at + done) held, first.0, second.0),
   take-add done count (take done into ++ next)
-  ∙ ap (λ x. x ++ take count (drop done (take done into ++ next))) (take_at (take done into) next done long)
-  ∙ ap (λ x. take done into ++ take count x) (drop_at (take done into) next done long)
-  ∙ ap (λ x. x ++ take count next) first.1
-  ∙ ap (λ x. take done (drop at held) ++ x) second.1
-  ∙ ap (λ x. take done (drop at held) ++ take count x) (sym (drop-drop done at held))
-  ∙ sym (take-add done count (drop at held)),
+      ∙ ap (λ x. x ++ take count (drop done (take done into ++ next))) (take_at (take done into) next done long)
+      ∙ ap (λ x. take done into ++ take count x) (drop_at (take done into) next done long)
+      ∙ ap (λ x. x ++ take count next) first.1
+      ∙ ap (λ x. take done (drop at held) ++ x) second.1
+      ∙ ap (λ x. take done (drop at held) ++ take count x) (sym (drop-drop done at held))
+      ∙ sym (take-add done count (drop at held)),
 )
   where
     long : length (take done into) ≡ done
@@ -117,9 +117,13 @@ begins_longer rest front (Open size) is (behind, fits, same) =
     (behind ++ drop 5 rest, fits, whole_of rest front is ∙ ap (λ x. x ++ drop 5 rest) same ∙ ap (λ x. 1 ∷ x) (append_assoc (number_bytes size) behind (drop 5 rest)))
 begins_longer rest front Cut is (inl none) = inl (nil_from_length rest (omega (arith, ap length (sym is ∙ none), length-take 5 rest)))
 begins_longer rest front Cut is (inr (behind, same, absent)) =
-    inr (behind ++ drop 5 rest, whole_of rest front is ∙ ap (λ x. x ++ drop 5 rest) same, λ value more fits begins.
-        absent value [] fits
-        (first_four rest behind (sym same ∙ is) ∙ ap (take 4) begins ∙ take_at (number_bytes value) more 4 (number_length value) ∙ sym (append-nil (number_bytes value))))
+    inr (
+      behind ++ drop 5 rest,
+      whole_of rest front is ∙ ap (λ x. x ++ drop 5 rest) same,
+      λ value more fits begins.
+          absent value [] fits
+          (first_four rest behind (sym same ∙ is) ∙ ap (take 4) begins ∙ take_at (number_bytes value) more 4 (number_length value) ∙ sym (append-nil (number_bytes value))),
+    )
 
 -- a record with a payload of so many bytes
 module _ (rest behind : List ℕ) (at size : ℕ) (fits : IsNumber size) (is : rest ≡ 1 ∷ (number_bytes size ++ behind)) where
@@ -142,17 +146,25 @@ module _ (rest behind : List ℕ) (at size : ℕ) (fits : IsNumber size) (is : r
   }
 
   pub begins_badly : ((payload more : List ℕ) → length payload ≡ size → behind ≡ payload ++ more → IsWithin at payload → ⊥) → BeginsBadly rest at
-  begins_badly none = inr (number_bytes size ++ behind, is, λ payload more short within same.
-      let parts = number_once size (length payload) behind (payload ++ more) fits short (same ∙ append_assoc (number_bytes (length payload)) payload more) in
-      none payload more (sym parts.0) parts.1 within)
+  begins_badly none = inr (
+    number_bytes size ++ behind,
+    is,
+    λ payload more short within same.
+        let parts = number_once size (length payload) behind (payload ++ more) fits short (same ∙ append_assoc (number_bytes (length payload)) payload more) in
+        none payload more (sym parts.0) parts.1 within,
+  )
 
 pub closed_front : (bytes : List ℕ) → BeginsAs bytes Closed → BeginsClosed bytes
 closed_front bytes (gate, behind, closed, is) = record { gate = gate; behind = behind; closed = closed; is = is }
 
 pub cut_front : (bytes : List ℕ) (at : ℕ) → BeginsAs bytes Cut → BeginsBadly bytes at
 cut_front bytes at (inl none) = inl none
-cut_front bytes at (inr (behind, is, absent)) = inr (behind, is, λ payload more short within same.
-    absent (length payload) (payload ++ more) short (same ∙ append_assoc (number_bytes (length payload)) payload more))
+cut_front bytes at (inr (behind, is, absent)) = inr (
+  behind,
+  is,
+  λ payload more short within same.
+      absent (length payload) (payload ++ more) short (same ∙ append_assoc (number_bytes (length payload)) payload more),
+)
 
 both_told : (content : Option (List ℕ)) (P Q R : List ℕ → Type 0) → ((held : List ℕ) → P held → Q held → R held) → IfSome content P → IfSome content Q → IfSome content R
 both_told None P Q R f p q = tt
@@ -180,7 +192,7 @@ too_far held total at size whole (behind, fits, is) far =
 pub cut_payload : (held : List ℕ) (at size : ℕ) → BeginsAs (drop at held) (Open size) → length (drop (at + 5) held) < size → BeginsBadly (drop at held) at
 cut_payload held at size (behind, fits, is) short =
     begins_badly (drop at held) behind at size fits is (λ payload more long same within.
-        omega (arith, ap length (payload_place (drop at held) behind at size fits is held refl), ap length same, length-append payload more, long, short))
+    omega (arith, ap length (payload_place (drop at held) behind at size fits is held refl), ap length same, length-append payload more, long, short))
 
 pub whole_payload : (held payload : List ℕ) (at size : ℕ) → BeginsAs (drop at held) (Open size) → drop (at + 5) held ≡ payload ++ drop size (drop (at + 5) held) → length payload ≡ size → IsWithin at payload → BeginsWith (drop at held) at payload
 whole_payload held payload at size (behind, fits, is) same long within =

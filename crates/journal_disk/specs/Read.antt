@@ -45,7 +45,7 @@ pub record BeginsClosed (bytes : List ℕ) : Type 0 where
 abbrev pub BeginsBadly : List ℕ → ℕ → Type 0
 BeginsBadly bytes at = (bytes ≡ [])
     ⊎ ((behind : List ℕ) × (bytes ≡ 1 ∷ behind)
-        × ((payload : List ℕ) (rest : List ℕ) → length payload < 2 ^ 32 → IsWithin at payload → behind ≡ long_text payload ++ rest → ⊥))
+    × ((payload : List ℕ) (rest : List ℕ) → length payload < 2 ^ 32 → IsWithin at payload → behind ≡ long_text payload ++ rest → ⊥))
 
 -- a fault of the bytes is this; the others say nothing of them
 abbrev pub IsReadFault : Type 0 → ReadFault → Type 0

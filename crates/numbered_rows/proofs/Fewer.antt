@@ -27,10 +27,13 @@ module _ (few many : State) (stay : (row : Row) → IsTrue (few.rows row) → Is
   account_stays a there = stay (Account a) there
 
   pub pair_stays : (pair : AuthId × List ℕ) → IsPairInUse few pair → IsPairInUse many pair
-  pair_stays pair used = (used.0, elim used.1 [
-    | inl granted ↦ inl (stay (Schema pair.0 pair.1 used.0) granted)
-    | inr restricted ↦ inr (stay (Restriction pair.0 used.0 pair.1) restricted)
-  ])
+  pair_stays pair used = (
+    used.0,
+    elim used.1 [
+      | inl granted ↦ inl (stay (Schema pair.0 pair.1 used.0) granted)
+      | inr restricted ↦ inr (stay (Restriction pair.0 used.0 pair.1) restricted)
+    ],
+  )
 
   pub schema_stays : (s : List ℕ) → IsSchemaInUse few s → IsSchemaInUse many s
   schema_stays s used = (used.0, pair_stays (used.0, s) used.1)

@@ -206,11 +206,7 @@ fn may_go(alloc: Global, rows: &Rows, gone: &[Row]) -> Result<(), Refusal>
 }
 
 // The first limit that is exceeded in a copy without the rows.
-fn limits_without(
-    alloc: Global,
-    rows: &Rows,
-    gone: &[Row],
-) -> Result<Result<(), Full>, AllocError>
+fn limits_without(alloc: Global, rows: &Rows, gone: &[Row]) -> Result<Result<(), Full>, AllocError>
     requires { IsClosed (state_of rows.now) gone.now }
     ensures ok { IfOk result (λ within. OnOk within
         (HasNone (IsExceeded (without_rows gone.now (state_of rows.now))) limits_in_order)) }

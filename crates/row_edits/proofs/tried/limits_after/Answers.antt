@@ -11,7 +11,6 @@ use Rattle.row_edits.proofs.Limiting.{if_err_weaker}
 use Rattle.row_edits.proofs.Trials.{all_back, back_ready, come_closed, come_gone, fits_fewer, fits_then, options_ready, parts_come, parts_fit, plain_ready}
 use Rattle.row_edits.proofs.tried.limits_after.Goals as goal
 
-
 pub edit-requires-clause-closed : goal.edit-requires-clause-closed
 edit-requires-clause-closed c = c.requires.tried.closed
 
