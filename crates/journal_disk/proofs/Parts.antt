@@ -21,21 +21,24 @@ parted other at inside = sym (take-append-drop at other) ∙ ap (λ x. take at o
 pub with_gate : (start : State) (file other : List ℕ) (entries : List Entry) (entry : Entry) (gate : ℕ) → StandsEitherWay start file entries entry
     → other ≡ take (length (before_gate entries)) file ++ gate ∷ drop (length (before_gate entries) + 1) file
     → (either : StandsEitherWay start other entries entry) × (either.gate ≡ gate)
-with_gate start file other entries entry gate either is = (record {
-  history = either.history;
-  follows = either.follows;
-  gate = gate;
-  next_gate = either.next_gate;
-  closed = either.closed;
-  behind = either.behind;
-  bytes =
-      let front = before_gate entries in
-      let tail = payload_bytes entry ++ either.next_gate ∷ either.behind in
-      is
-      ∙ ap (λ x. take (length front) x ++ gate ∷ drop (length front + 1) x) either.bytes
-      ∙ ap (λ x. x ++ gate ∷ drop (length front + 1) (front ++ either.gate ∷ tail)) (take_at front (either.gate ∷ tail) (length front) refl)
-      ∙ ap (λ x. front ++ gate ∷ x) (tail_of front either.gate tail);
-}, refl)
+with_gate start file other entries entry gate either is = (
+  record {
+    history = either.history;
+    follows = either.follows;
+    gate = gate;
+    next_gate = either.next_gate;
+    closed = either.closed;
+    behind = either.behind;
+    bytes =
+        let front = before_gate entries in
+        let tail = payload_bytes entry ++ either.next_gate ∷ either.behind in
+        is
+        ∙ ap (λ x. take (length front) x ++ gate ∷ drop (length front + 1) x) either.bytes
+        ∙ ap (λ x. x ++ gate ∷ drop (length front + 1) (front ++ either.gate ∷ tail)) (take_at front (either.gate ∷ tail) (length front) refl)
+        ∙ ap (λ x. front ++ gate ∷ x) (tail_of front either.gate tail);
+  },
+  refl,
+)
 
 pub same_sides : (start : State) (file other : List ℕ) (entries : List Entry) (entry : Entry) → StandsEitherWay start file entries entry
     → take (length (before_gate entries)) other ≡ take (length (before_gate entries)) file
@@ -46,7 +49,7 @@ same_sides start file other entries entry either front back long =
     let inside : length (before_gate entries) < length other =
     omega (arith, long, ap length either.bytes, length-append (before_gate entries) (either.gate ∷ (payload_bytes entry ++ either.next_gate ∷ either.behind))) in
     (with_gate start file other entries entry (get_or other at 0) either
-     (parted other at inside ∙ ap (λ x. x ++ get_or other at 0 ∷ drop (at + 1) other) front ∙ ap (λ x. take at file ++ get_or other at 0 ∷ x) back)).0
+    (parted other at inside ∙ ap (λ x. x ++ get_or other at 0 ∷ drop (at + 1) other) front ∙ ap (λ x. take at file ++ get_or other at 0 ∷ x) back)).0
 
 -- what is written behind a gate
 behind_gate : (file before behind payload bytes : List ℕ) (gate size : ℕ) → file ≡ before ++ gate ∷ behind → length before + 1 ≡ size → bytes ≡ payload ++ 0 ∷ []

@@ -1,5 +1,5 @@
 -- What is read of a disk, call after call, and of its bytes.
-use Rattle.std.proofs.Common.{◌≡◌, ◌≢◌, ◌⊎◌, inl, inr, ⊎_elim, ℕ, ◌+◌, ◌-◌, ◌^◌, ◌<◌, ◌≤◌, min, List, [], ◌∷◌, ◌++◌, length, take, drop, Option, None, Some, IfSome, refl, sym, ap, subst, ◌∙◌, append_assoc, append-nil, length-append, length-take, length-drop, take-append-drop, arith}
+use Rattle.std.proofs.Common.{◌≡◌, ◌≢◌, ◌⊎◌, inl, inr, ⊎_elim, ℕ, ◌+◌, ◌-◌, ◌^◌, ◌<◌, ◌≤◌, min, List, [], ◌∷◌, ◌++◌, length, take, drop, Option, None, Some, IfSome, IfNone, refl, sym, ap, subst, ◌∙◌, append_assoc, append-nil, length-append, length-take, length-drop, take-append-drop, arith}
 use Rattle.std.proofs.lemmas.Bool.{cases_eq, cases_lt}
 use Rattle.std.proofs.lemmas.List.{drop-drop, drop-take, drop_all, drop_at, nil_from_length, take-append-le, take-take, take_all, take_at, take_min}
 use borrow.Rule.Slice.PartMut.{post_of, put_mid}
@@ -9,6 +9,7 @@ use Rattle.entry_bytes.proofs.Once.{number_length, number_once}
 use Rattle.entry_bytes.specs.Faults.{NoneBegins}
 use Rattle.entry_bytes.specs.Spelling.{IsNumber, long_text, number_bytes}
 use Rattle.journal_bytes.specs.Files.{most_bytes}
+use Rattle.journal_disk.proofs.Steps.{untold_again}
 use Rattle.journal_disk.specs.Read.{BeginsAs, BeginsBadly, BeginsClosed, BeginsWith, IsWithin, OnlyReads}
 use Rattle.journal_disk.specs.declared.reading.Front.{Front}
 use Rattle.journal_disk.specs.declared.reading.Front.TheVariants.{Closed, Cut, Open}
@@ -18,6 +19,10 @@ stays_again None mid last a b = tt
 stays_again (Some held) mid last a b = let next : Stays (Some held) last = subst (λ (m : Option (List ℕ)). Stays m last) a b in next
 
 module _ {D : Type 0} (content : D → Option (List ℕ)) (moment : D → ℕ) (pending : D → ℕ → Option Pending) where
+  none_self : (o : Option (List ℕ)) → IfNone o (o ≡ None)
+  none_self None = refl
+  none_self (Some held) = tt
+
   stays_self : (o : Option (List ℕ)) → Stays o o
   stays_self None = tt
   stays_self (Some held) = refl
@@ -25,14 +30,16 @@ module _ {D : Type 0} (content : D → Option (List ℕ)) (moment : D → ℕ) (
   pub quiet_none : (disk : D) → OnlyReads content moment pending disk disk
   quiet_none disk = record {
     kept = stays_self (content disk);
+    untold = none_self (content disk);
     later = omega arith;
     earlier = λ time before. refl;
     since = λ time from to. let same : time ≡ moment disk = omega arith in ap (pending disk) same;
   }
 
-  pub quiet_one : (old new : D) → Stays (content old) (content new) → Elapses (moment old) (moment new) (pending old) (pending new) StaysPending → OnlyReads content moment pending old new
-  quiet_one old new kept time = record {
+  pub quiet_one : (old new : D) → Stays (content old) (content new) → IfNone (content old) (content new ≡ None) → Elapses (moment old) (moment new) (pending old) (pending new) StaysPending → OnlyReads content moment pending old new
+  quiet_one old new kept untold time = record {
     kept = kept;
+    untold = untold;
     later = time.later;
     earlier = time.kept;
     since = λ t from to. at t from to (cases_eq t (moment old));
@@ -45,6 +52,7 @@ module _ {D : Type 0} (content : D → Option (List ℕ)) (moment : D → ℕ) (
   pub quiet_again : (old mid new : D) → OnlyReads content moment pending old mid → OnlyReads content moment pending mid new → OnlyReads content moment pending old new
   quiet_again old mid new first second = record {
     kept = stays_again (content old) (content mid) (content new) first.kept second.kept;
+    untold = untold_again (content old) (content mid) (content new) first.untold second.untold;
     later = omega (arith, first.later, second.later);
     earlier = λ t before. second.earlier t (omega (arith, before, first.later)) ∙ first.earlier t before;
     since = λ t from to. at t from to (cases_lt t (moment mid));
@@ -66,12 +74,12 @@ pub read_more : (held into next : List ℕ) (at done count : ℕ) → done ≤ l
 read_more held into next at done count within first second = (
   omega (arith, length-drop at held, length-drop (at + done) held, first.0, second.0),
   take-add done count (take done into ++ next)
-  ∙ ap (λ x. x ++ take count (drop done (take done into ++ next))) (take_at (take done into) next done long)
-  ∙ ap (λ x. take done into ++ take count x) (drop_at (take done into) next done long)
-  ∙ ap (λ x. x ++ take count next) first.1
-  ∙ ap (λ x. take done (drop at held) ++ x) second.1
-  ∙ ap (λ x. take done (drop at held) ++ take count x) (sym (drop-drop done at held))
-  ∙ sym (take-add done count (drop at held)),
+      ∙ ap (λ x. x ++ take count (drop done (take done into ++ next))) (take_at (take done into) next done long)
+      ∙ ap (λ x. take done into ++ take count x) (drop_at (take done into) next done long)
+      ∙ ap (λ x. x ++ take count next) first.1
+      ∙ ap (λ x. take done (drop at held) ++ x) second.1
+      ∙ ap (λ x. take done (drop at held) ++ take count x) (sym (drop-drop done at held))
+      ∙ sym (take-add done count (drop at held)),
 )
   where
     long : length (take done into) ≡ done
@@ -117,9 +125,13 @@ begins_longer rest front (Open size) is (behind, fits, same) =
     (behind ++ drop 5 rest, fits, whole_of rest front is ∙ ap (λ x. x ++ drop 5 rest) same ∙ ap (λ x. 1 ∷ x) (append_assoc (number_bytes size) behind (drop 5 rest)))
 begins_longer rest front Cut is (inl none) = inl (nil_from_length rest (omega (arith, ap length (sym is ∙ none), length-take 5 rest)))
 begins_longer rest front Cut is (inr (behind, same, absent)) =
-    inr (behind ++ drop 5 rest, whole_of rest front is ∙ ap (λ x. x ++ drop 5 rest) same, λ value more fits begins.
-        absent value [] fits
-        (first_four rest behind (sym same ∙ is) ∙ ap (take 4) begins ∙ take_at (number_bytes value) more 4 (number_length value) ∙ sym (append-nil (number_bytes value))))
+    inr (
+      behind ++ drop 5 rest,
+      whole_of rest front is ∙ ap (λ x. x ++ drop 5 rest) same,
+      λ value more fits begins.
+          absent value [] fits
+          (first_four rest behind (sym same ∙ is) ∙ ap (take 4) begins ∙ take_at (number_bytes value) more 4 (number_length value) ∙ sym (append-nil (number_bytes value))),
+    )
 
 -- a record with a payload of so many bytes
 module _ (rest behind : List ℕ) (at size : ℕ) (fits : IsNumber size) (is : rest ≡ 1 ∷ (number_bytes size ++ behind)) where
@@ -142,17 +154,25 @@ module _ (rest behind : List ℕ) (at size : ℕ) (fits : IsNumber size) (is : r
   }
 
   pub begins_badly : ((payload more : List ℕ) → length payload ≡ size → behind ≡ payload ++ more → IsWithin at payload → ⊥) → BeginsBadly rest at
-  begins_badly none = inr (number_bytes size ++ behind, is, λ payload more short within same.
-      let parts = number_once size (length payload) behind (payload ++ more) fits short (same ∙ append_assoc (number_bytes (length payload)) payload more) in
-      none payload more (sym parts.0) parts.1 within)
+  begins_badly none = inr (
+    number_bytes size ++ behind,
+    is,
+    λ payload more short within same.
+        let parts = number_once size (length payload) behind (payload ++ more) fits short (same ∙ append_assoc (number_bytes (length payload)) payload more) in
+        none payload more (sym parts.0) parts.1 within,
+  )
 
 pub closed_front : (bytes : List ℕ) → BeginsAs bytes Closed → BeginsClosed bytes
 closed_front bytes (gate, behind, closed, is) = record { gate = gate; behind = behind; closed = closed; is = is }
 
 pub cut_front : (bytes : List ℕ) (at : ℕ) → BeginsAs bytes Cut → BeginsBadly bytes at
 cut_front bytes at (inl none) = inl none
-cut_front bytes at (inr (behind, is, absent)) = inr (behind, is, λ payload more short within same.
-    absent (length payload) (payload ++ more) short (same ∙ append_assoc (number_bytes (length payload)) payload more))
+cut_front bytes at (inr (behind, is, absent)) = inr (
+  behind,
+  is,
+  λ payload more short within same.
+      absent (length payload) (payload ++ more) short (same ∙ append_assoc (number_bytes (length payload)) payload more),
+)
 
 both_told : (content : Option (List ℕ)) (P Q R : List ℕ → Type 0) → ((held : List ℕ) → P held → Q held → R held) → IfSome content P → IfSome content Q → IfSome content R
 both_told None P Q R f p q = tt
@@ -180,7 +200,7 @@ too_far held total at size whole (behind, fits, is) far =
 pub cut_payload : (held : List ℕ) (at size : ℕ) → BeginsAs (drop at held) (Open size) → length (drop (at + 5) held) < size → BeginsBadly (drop at held) at
 cut_payload held at size (behind, fits, is) short =
     begins_badly (drop at held) behind at size fits is (λ payload more long same within.
-        omega (arith, ap length (payload_place (drop at held) behind at size fits is held refl), ap length same, length-append payload more, long, short))
+    omega (arith, ap length (payload_place (drop at held) behind at size fits is held refl), ap length same, length-append payload more, long, short))
 
 pub whole_payload : (held payload : List ℕ) (at size : ℕ) → BeginsAs (drop at held) (Open size) → drop (at + 5) held ≡ payload ++ drop size (drop (at + 5) held) → length payload ≡ size → IsWithin at payload → BeginsWith (drop at held) at payload
 whole_payload held payload at size (behind, fits, is) same long within =

@@ -108,9 +108,10 @@ pub wrote_longer : (at : ℕ) (bytes : List ℕ) (before after : Option (List �
     → HasBytesUpTo before at → IsNoShorter before after × HasBytesUpTo after (at + length bytes)
 wrote_longer at bytes None after is none inside = (λ size long. long_if_none after size none, long_if_none after (at + length bytes) none)
 wrote_longer at bytes (Some held) after is none inside =
-    let size = length-write held bytes at (inside held refl) in
-    (λ count long. let enough : count ≤ length held = long held refl in long_if_some after (content_after_write held at bytes) count is (omega (arith, size, enough)),
-     long_if_some after (content_after_write held at bytes) (at + length bytes) is (omega (arith, size)))
+    let size = length-write held bytes at (inside held refl) in (
+      λ count long. let enough : count ≤ length held = long held refl in long_if_some after (content_after_write held at bytes) count is (omega (arith, size, enough)),
+      long_if_some after (content_after_write held at bytes) (at + length bytes) is (omega (arith, size)),
+    )
 
 pub not_shorter : (before after : Option (List ℕ)) → IfSome before (λ held. IsSomeAnd after (λ next. length held ≤ length next)) → IfNone before (after ≡ None) → IsNoShorter before after
 not_shorter None after more none = λ size long. long_if_none after size none

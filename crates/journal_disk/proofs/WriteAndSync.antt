@@ -60,8 +60,8 @@ module _ {D : Type 0} (content : D → Option (List ℕ)) (moment : D → ℕ) (
       → Holds content moment pending I old → OnOk result (Holds content moment pending K new)
   both_done J K old mid new (Ok value) wrote_so synced_so done untold time stays untold_too time_too holds =
       still (content old) (content new) _ _ holds (untold_again (content old) (content mid) (content new) untold untold_too) (λ told.
-        synced J K (content mid) (content new) (pending mid (moment mid)) (pending new (moment new)) synced_so stays time_too.step
-        (wrote I J at bytes (content old) (content mid) (pending old (moment old)) (pending mid (moment mid)) wrote_so done time.step told))
+      synced J K (content mid) (content new) (pending mid (moment mid)) (pending new (moment new)) synced_so stays time_too.step
+      (wrote I J at bytes (content old) (content mid) (pending old (moment old)) (pending mid (moment mid)) wrote_so done time.step told))
   both_done J K old mid new (Err fault) wrote_so synced_so done untold time stays untold_too time_too holds = tt
 
 pub when_ok : {T E : Type 0} (result : Result T E) (Q : Type 0) → ((value : T) → result ≡ Ok value → Q) → OnOk result Q

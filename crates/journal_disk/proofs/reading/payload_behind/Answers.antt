@@ -19,5 +19,5 @@ pub returns-in-Ok-Some-clause-found : goal.returns-in-Ok-Some-clause-found
 returns-in-Ok-Some-clause-found g c =
     let long : length c.in-Ok-Some.payload.items ≡ c.args.size = rw c.in-Ok-Some.field-0-is at c.in-Ok-Some.ensures.long in
     under (g.D.Disk.content c.args.disk.now) _ _ (λ held same begins.
-        whole_payload held c.in-Ok-Some.payload.items c.args.at c.args.size begins same long (omega (arith, long, c.if-end-ge-MOST_BYTES.false)))
+    whole_payload held c.in-Ok-Some.payload.items c.args.at c.args.size begins same long (omega (arith, long, c.if-end-ge-MOST_BYTES.false)))
     (rw c.in-Ok-Some.field-0-is at c.in-Ok-Some.ensures.found)

@@ -40,21 +40,21 @@ pub returns-clause-opened : goal.returns-clause-opened
 returns-clause-opened g c = when_ok c.sync.result _ (λ value is start entries entry size holds which.
     of_ok c.sync.result value _ is
     (both_done g.D.Disk.content g.D.Disk.moment g.D.Disk.pending c.args.gate (c.args.value ∷ []) (HoldsEither start entries entry) (λ image. StandsEitherWay start image entries entry) (gate_keeps start entries entry c.args.gate c.args.value (gate_at entries c.args.gate size))
-     (λ held known. StandsFor start held (entries ++ entry ∷ [])) (HoldsList start (entries ++ entry ∷ []))
-     c.args.disk.now c.write_at.new.self c.sync.new.self c.sync.result
-     (λ held known either. opened_by start entries entry c.args.gate c.args.value held (gate_at entries c.args.gate size) either.read which)
-     (λ held known stands. list_of start (entries ++ entry ∷ []) held stands)
-     c.in_ok-write_at.ensures.done c.write_at.ensures.untold c.in_ok-write_at.ensures.time c.sync.ensures.kept c.sync.ensures.untold c.sync.ensures.time holds))
+    (λ held known. StandsFor start held (entries ++ entry ∷ [])) (HoldsList start (entries ++ entry ∷ []))
+    c.args.disk.now c.write_at.new.self c.sync.new.self c.sync.result
+    (λ held known either. opened_by start entries entry c.args.gate c.args.value held (gate_at entries c.args.gate size) either.read which)
+    (λ held known stands. list_of start (entries ++ entry ∷ []) held stands)
+    c.in_ok-write_at.ensures.done c.write_at.ensures.untold c.in_ok-write_at.ensures.time c.sync.ensures.kept c.sync.ensures.untold c.sync.ensures.time holds))
 
 pub returns-clause-closed : goal.returns-clause-closed
 returns-clause-closed g c = when_ok c.sync.result _ (λ value is start entries entry size holds which.
     of_ok c.sync.result value _ is
     (both_done g.D.Disk.content g.D.Disk.moment g.D.Disk.pending c.args.gate (c.args.value ∷ []) (HoldsEither start entries entry) (λ image. StandsEitherWay start image entries entry) (gate_keeps start entries entry c.args.gate c.args.value (gate_at entries c.args.gate size))
-     (λ held known. StandsFor start held entries) (HoldsList start entries)
-     c.args.disk.now c.write_at.new.self c.sync.new.self c.sync.result
-     (λ held known either. closed_by start entries entry c.args.gate c.args.value held (gate_at entries c.args.gate size) either.read which)
-     (λ held known stands. list_of start entries held stands)
-     c.in_ok-write_at.ensures.done c.write_at.ensures.untold c.in_ok-write_at.ensures.time c.sync.ensures.kept c.sync.ensures.untold c.sync.ensures.time holds))
+    (λ held known. StandsFor start held entries) (HoldsList start entries)
+    c.args.disk.now c.write_at.new.self c.sync.new.self c.sync.result
+    (λ held known either. closed_by start entries entry c.args.gate c.args.value held (gate_at entries c.args.gate size) either.read which)
+    (λ held known stands. list_of start entries held stands)
+    c.in_ok-write_at.ensures.done c.write_at.ensures.untold c.in_ok-write_at.ensures.time c.sync.ensures.kept c.sync.ensures.untold c.sync.ensures.time holds))
 
 inside : (content : Option (List ℕ)) (gate : ℕ) → HasBytesUpTo content (gate + 1) → HasBytesUpTo content gate
 inside content gate held = λ bytes is. let long : gate + 1 ≤ length bytes = held bytes is in omega (arith, long)

@@ -35,11 +35,11 @@ pub returns-clause-written : goal.returns-clause-written
 returns-clause-written g c = when_ok c.sync.result _ (λ value is start entries entry size holds follows same.
     of_ok c.sync.result value _ is
     (both_done g.D.Disk.content g.D.Disk.moment g.D.Disk.pending (c.args.gate + 1) c.args.bytes.now (HoldsList start entries) (λ image. StandsFor start image entries) (behind_keeps start entries (c.args.gate + 1) c.args.bytes.now size)
-     (λ held known. StandsEitherWay start held entries entry) (HoldsEither start entries entry)
-     c.args.disk.now c.write_at.new.self c.sync.new.self c.sync.result
-     (λ held known list. record_written start entries entry (c.args.gate + 1) c.args.bytes.now held size follows same list.read)
-     (λ held known either. either_of start entries entry held either)
-     c.in_ok-write_at.ensures.done c.write_at.ensures.untold c.in_ok-write_at.ensures.time c.sync.ensures.kept c.sync.ensures.untold c.sync.ensures.time holds))
+    (λ held known. StandsEitherWay start held entries entry) (HoldsEither start entries entry)
+    c.args.disk.now c.write_at.new.self c.sync.new.self c.sync.result
+    (λ held known list. record_written start entries entry (c.args.gate + 1) c.args.bytes.now held size follows same list.read)
+    (λ held known either. either_of start entries entry held either)
+    c.in_ok-write_at.ensures.done c.write_at.ensures.untold c.in_ok-write_at.ensures.time c.sync.ensures.kept c.sync.ensures.untold c.sync.ensures.time holds))
 
 pub returns-clause-long : goal.returns-clause-long
 returns-clause-long g c = λ size held.
