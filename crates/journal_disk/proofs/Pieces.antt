@@ -1,5 +1,5 @@
 -- What is read of a disk, call after call, and of its bytes.
-use Rattle.std.proofs.Common.{◌≡◌, ◌≢◌, ◌⊎◌, inl, inr, ⊎_elim, ℕ, ◌+◌, ◌-◌, ◌^◌, ◌<◌, ◌≤◌, min, List, [], ◌∷◌, ◌++◌, length, take, drop, Option, None, Some, IfSome, refl, sym, ap, subst, ◌∙◌, append_assoc, append-nil, length-append, length-take, length-drop, take-append-drop, arith}
+use Rattle.std.proofs.Common.{◌≡◌, ◌≢◌, ◌⊎◌, inl, inr, ⊎_elim, ℕ, ◌+◌, ◌-◌, ◌^◌, ◌<◌, ◌≤◌, min, List, [], ◌∷◌, ◌++◌, length, take, drop, Option, None, Some, IfSome, IfNone, refl, sym, ap, subst, ◌∙◌, append_assoc, append-nil, length-append, length-take, length-drop, take-append-drop, arith}
 use Rattle.std.proofs.lemmas.Bool.{cases_eq, cases_lt}
 use Rattle.std.proofs.lemmas.List.{drop-drop, drop-take, drop_all, drop_at, nil_from_length, take-append-le, take-take, take_all, take_at, take_min}
 use borrow.Rule.Slice.PartMut.{post_of, put_mid}
@@ -9,6 +9,7 @@ use Rattle.entry_bytes.proofs.Once.{number_length, number_once}
 use Rattle.entry_bytes.specs.Faults.{NoneBegins}
 use Rattle.entry_bytes.specs.Spelling.{IsNumber, long_text, number_bytes}
 use Rattle.journal_bytes.specs.Files.{most_bytes}
+use Rattle.journal_disk.proofs.Steps.{untold_again}
 use Rattle.journal_disk.specs.Read.{BeginsAs, BeginsBadly, BeginsClosed, BeginsWith, IsWithin, OnlyReads}
 use Rattle.journal_disk.specs.declared.reading.Front.{Front}
 use Rattle.journal_disk.specs.declared.reading.Front.TheVariants.{Closed, Cut, Open}
@@ -18,6 +19,10 @@ stays_again None mid last a b = tt
 stays_again (Some held) mid last a b = let next : Stays (Some held) last = subst (λ (m : Option (List ℕ)). Stays m last) a b in next
 
 module _ {D : Type 0} (content : D → Option (List ℕ)) (moment : D → ℕ) (pending : D → ℕ → Option Pending) where
+  none_self : (o : Option (List ℕ)) → IfNone o (o ≡ None)
+  none_self None = refl
+  none_self (Some held) = tt
+
   stays_self : (o : Option (List ℕ)) → Stays o o
   stays_self None = tt
   stays_self (Some held) = refl
@@ -25,14 +30,16 @@ module _ {D : Type 0} (content : D → Option (List ℕ)) (moment : D → ℕ) (
   pub quiet_none : (disk : D) → OnlyReads content moment pending disk disk
   quiet_none disk = record {
     kept = stays_self (content disk);
+    untold = none_self (content disk);
     later = omega arith;
     earlier = λ time before. refl;
     since = λ time from to. let same : time ≡ moment disk = omega arith in ap (pending disk) same;
   }
 
-  pub quiet_one : (old new : D) → Stays (content old) (content new) → Elapses (moment old) (moment new) (pending old) (pending new) StaysPending → OnlyReads content moment pending old new
-  quiet_one old new kept time = record {
+  pub quiet_one : (old new : D) → Stays (content old) (content new) → IfNone (content old) (content new ≡ None) → Elapses (moment old) (moment new) (pending old) (pending new) StaysPending → OnlyReads content moment pending old new
+  quiet_one old new kept untold time = record {
     kept = kept;
+    untold = untold;
     later = time.later;
     earlier = time.kept;
     since = λ t from to. at t from to (cases_eq t (moment old));
@@ -45,6 +52,7 @@ module _ {D : Type 0} (content : D → Option (List ℕ)) (moment : D → ℕ) (
   pub quiet_again : (old mid new : D) → OnlyReads content moment pending old mid → OnlyReads content moment pending mid new → OnlyReads content moment pending old new
   quiet_again old mid new first second = record {
     kept = stays_again (content old) (content mid) (content new) first.kept second.kept;
+    untold = untold_again (content old) (content mid) (content new) first.untold second.untold;
     later = omega (arith, first.later, second.later);
     earlier = λ t before. second.earlier t (omega (arith, before, first.later)) ∙ first.earlier t before;
     since = λ t from to. at t from to (cases_lt t (moment mid));

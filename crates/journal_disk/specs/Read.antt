@@ -1,5 +1,5 @@
 -- What reading the disk of a journal finds.
-use Rattle.std.specs.Prelude.{◌≡◌, ◌≢◌, ◌⊎◌, ◌+◌, ◌<◌, ◌≤◌, ◌^◌, ℕ, List, [], ◌∷◌, ◌++◌, length, Option, None, Some}
+use Rattle.std.specs.Prelude.{◌≡◌, ◌≢◌, ◌⊎◌, ◌+◌, ◌<◌, ◌≤◌, ◌^◌, ℕ, List, [], ◌∷◌, ◌++◌, length, Option, None, Some, IfNone}
 use Rattle.acl_ports.specs.Crash.{Pending}
 use Rattle.acl_ports.specs.Disk.{Stays}
 use Rattle.entry_bytes.specs.Faults.{NoneBegins}
@@ -13,6 +13,7 @@ use Rattle.journal_disk.specs.declared.reading.ReadFault.TheVariants.{Bad, Disk,
 -- Calls that write nothing and sync nothing: what a read gives is as it was, and what is pending was so at each moment.
 pub record OnlyReads {D : Type 0} (content : D → Option (List ℕ)) (moment : D → ℕ) (pending : D → ℕ → Option Pending) (old new : D) : Type 0 where
   pub kept : Stays (content old) (content new)
+  pub untold : IfNone (content old) (content new ≡ None)
   pub later : moment old ≤ moment new
   pub earlier : (time : ℕ) → time ≤ moment old → pending new time ≡ pending old time
   pub since : (time : ℕ) → moment old ≤ time → time ≤ moment new → pending new time ≡ pending old (moment old)

@@ -1,0 +1,4 @@
+pub mod Header
+pub mod Leaving
+pub mod Progress
+pub mod Taking

@@ -1,0 +1,4 @@
+pub mod Journal
+pub mod Refusals
+pub mod Recovery
+pub mod Opened
